@@ -243,12 +243,13 @@ c-tools:
 web-tools:
 	@command -v wasm-opt > /dev/null || { echo 'wasm-opt is missing: the package binaryen has it'; exit 1; }
 
-# The sources without contracts, as a package. Whoever has it needs no kit, and neither does this.
+# The sources without contracts, as a package. Whoever has it needs no kit, and neither does this. A lock file would name the
+# versions that the registry of this machine happens to have.
 crate:
 	@command -v cargo > /dev/null || { echo 'cargo is missing: rustup.rs has it'; exit 1; }
 	rm -rf out/crate
 	python3 cargo/make_crate.py out/crate
-	cd out/crate && cargo package --no-verify --allow-dirty
+	cd out/crate && cargo package --no-verify --allow-dirty --exclude-lockfile
 	cp out/crate/target/package/fmtcanon-$(VERSION).crate out/
 
 # The targets below need what only `make` builds.

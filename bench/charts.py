@@ -13,8 +13,8 @@ TOP = Path(__file__).resolve().parent.parent
 RESULTS = TOP / "bench/RESULTS.md"
 RATIOS, GROWTH = TOP / "docs/ratios.svg", TOP / "docs/growth.svg"
 COLOURS = ["#1b6ca8", "#c8553d", "#2e8b57", "#7b4fa3", "#b8860b", "#444444", "#d1498b", "#5f9ea0"]
-# The height of a bar with the gap below it, the room for names on the left, the width of the ratio 1, and the room to the
-# right of it and of the longest bar: the line at 1 has a name, whose half is there.
+# The height of a bar with the gap below it, the room for names on the left, the width of the ratio 1, and the room to
+# the right of it and of the longest bar: the line at 1 has a name, whose half is there.
 BAR, LABELS, SCALE, END = 20, 250, 200, 90
 # The sides of the plot of growth, and the room for its numbers and names.
 WIDTH, HEIGHT = 640, 360

@@ -1,9 +1,10 @@
 #!/usr/bin/env python3
 """Counts the instructions of the C library's calls over real formats, compared with `parse_printf_format`.
 
-    bench/library.py FOLDER
+    bench/library.py FOLDER [OTHER]
 
-FOLDER has libfmtcanon.a, as `make library` leaves it. The formats are those of shapes.nul, and those of them alone that
+FOLDER has libfmtcanon.a, as `make library` leaves it. If OTHER has another build of it, this prints one table alone,
+of a few calls of both. The formats are those of shapes.nul, and those of them alone that
 have a directive with a flag, a width, a precision, `i`, or a length modifier other than `h`, `hh`, `l` and `ll`. The calls
 of the whole language are counted over formats that each have a directive that the profile lacks. It needs gcc and
 valgrind, and prints the first tables of RESULTS.md. The last one is of `printing.c`.
@@ -26,6 +27,8 @@ TWO = ["fits, itself", "fits_fewer, itself", "fits_fewer, the last directive lef
 WHOLE = ["arguments", "directives", "specifications", "whole_canonical", "whole_canonical_length"]
 # Counted for a shortcut alone: pairs that go on alike up to their ends, and are both accepted.
 ALIKE = ["same, last conversion changed", "same, `%%` appended", "whole_same, last conversion changed"]
+# Counted for two builds of the library.
+OF_BOTH = ["check", "types", "canonical", "same, itself"]
 WHOLE_TWO = ["fits, itself", "whole_same, itself", "whole_same, a byte appended"]
 # The formats of printing.c, in its order.
 PRINTED = ["%d %s", r"Total: %5d of %-8s.\n", "%300d %s"]
@@ -96,6 +99,19 @@ def whole_table(driver, file, texts):
         yield f"| {named(call)} | {cost[call]:,.0f} | {cost[call] / known:.2f} |"
 
 
+def builds_table(folders, work, texts):
+    """The lines that compare the library of one folder with that of another."""
+    drivers = []
+    for number, folder in enumerate(folders):
+        place = work / str(number)
+        place.mkdir()
+        drivers.append(build(Path(folder), place, "library"))
+    first, second = (costs(driver, work / "formats.nul", texts, OF_BOTH) for driver in drivers)
+    yield "| Call | Proved | By cargo | Ratio |\n|---|---|---|---|"
+    for call in OF_BOTH:
+        yield f"| {named(call)} | {first[call]:,.0f} | {second[call]:,.0f} | {second[call] / first[call]:.2f} |"
+
+
 def bounds_table(driver, file, texts):
     """The lines that compare `bounds` with `types`, over the formats of bare directives and over the others."""
     yield "\n| Formats | `types` | `bounds` | Ratio |\n|---|---|---|---|"
@@ -107,11 +123,14 @@ def bounds_table(driver, file, texts):
 
 
 def main(words):
-    if len(words) != 1:
+    if len(words) not in (1, 2):
         sys.exit(__doc__)
     texts = shapes()
     with tempfile.TemporaryDirectory() as work:
         work = Path(work)
+        if len(words) == 2:
+            print(*builds_table(words, work, texts), sep="\n")
+            return
         driver, printing = (build(Path(words[0]), work, name) for name in ("library", "printing"))
         for table in (calls_table, whole_table, bounds_table):
             print(*table(driver, work / "formats.nul", texts), sep="\n")

@@ -3,9 +3,9 @@
 
     bench/paths.py FOLDER
 
-FOLDER has libfmtcanon.a, as `make library` leaves it. It needs gcc and valgrind. A path may give up, and then the next one
-finds the same answer. So nothing but its cost shows that a path is never taken. Its last line is 'N passed, M failed', and
-it exits with 1 where M isn't 0.
+FOLDER has libfmtcanon.a, as `make library` leaves it. It needs gcc and valgrind. A path may give up, and then the next
+one finds the same answer. So nothing but its cost shows that a path is never taken. Its last line is 'N passed, M
+failed', and it exits with 1 where M isn't 0.
 """
 import sys
 import tempfile
@@ -66,7 +66,9 @@ def main(folder):
         rows = list(PATHS.items())
         costs = workers.map(lambda it: cost(driver, Path(work), it[0], *it[1][1][:2]), enumerate(rows))
         for (path, (call, _, known)), now in zip(rows, costs):
-            trials.expect(f"{call}: {path}: {now:.0f} instructions, at most {MORE} times {known}", now <= MORE * known, True)
+            trials.expect(
+                f"{call}: {path}: {now:.0f} instructions, at most {MORE} times {known}", now <= MORE * known, True
+            )
     print(trials)
     return 1 if trials.failed else 0
 

@@ -66,7 +66,8 @@ def records(program, driver):
         ("same", ["whole"], ", a format and the next one", WHOLE_SHAPES[: WHOLE_SHAPES.rindex(b"\0", 0, -1) + 1]),
     ]
     print(
-        f"{len(shapes()):,} formats as records, with `--whole` those with a directive that the profile lacks; instructions a record:\n"
+        f"{len(shapes()):,} formats as records, with `--whole` those with a directive that the profile lacks; "
+        f"instructions a record:\n"
     )
     print("| Command | `fmtcanon` | A C loop over the library | Ratio |\n|---|---|---|---|")
     for command, more, name, text in texts:

@@ -31,10 +31,10 @@ class Shortcut:
         return found
 
 
-def shortcuts():
-    """Returns the shortcuts of the file."""
+def shortcuts(file=EDITS):
+    """Returns the shortcuts of a file."""
     found, parts = [], {}
-    for line in EDITS.read_text(encoding="utf-8").splitlines():
+    for line in file.read_text(encoding="utf-8").splitlines():
         word, _, rest = line.partition(": ")
         if not line or line.startswith("#"):
             continue

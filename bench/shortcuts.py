@@ -1,6 +1,7 @@
 """Counts what each shortcut buys: the instructions of calls with it and without it.
 
-A shortcut is a faster way to a result that another way gives, too. The crates are compiled without their proofs, by rustc.
+A shortcut is a faster way to a result that another way gives, too. The crates are compiled without their proofs, by
+rustc.
 """
 
 import shutil
@@ -33,7 +34,9 @@ class Costs:
         self.folder, self.sets, self.nothing = folder, sets, {} if known is None else known.nothing
 
     def two_rounds(self, call, texts):
-        more, fewer = (count(self.folder / program, *words) for program, words in (words_of(call, n, texts) for n in (3, 1)))
+        more, fewer = (
+            count(self.folder / program, *words) for program, words in (words_of(call, n, texts) for n in (3, 1))
+        )
         return more - fewer
 
     def one(self, call, texts):
@@ -61,7 +64,9 @@ def sets_in(work):
     texts = shapes()
     long = [b"x" * LITERAL + b"".join(texts[at : at + JOINED]) for at in range(0, len(texts), JOINED)]
     sets = []
-    for name, some in [("all", texts), ("parts", [text for text in texts if not PLAIN.fullmatch(text)]), ("long", long)]:
+    for name, some in [
+        ("all", texts), ("parts", [text for text in texts if not PLAIN.fullmatch(text)]), ("long", long)
+    ]:
         (work / name).write_bytes(records(some))
         sets.append((work / name, len(some)))
     return sets

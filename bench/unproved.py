@@ -16,10 +16,11 @@ sys.path.append(str(ROOT))
 from cargo.strip import replaced, stripped  # noqa: E402
 from tests.mutants.rattle_functions import blanked  # noqa: E402
 
-# The libraries, and the names of the kit's libraries that they use. All become modules of one crate, since the kit, too,
-# gives LLVM the whole program as one module.
+# The libraries, and the names of the kit's libraries that they use. All become modules of one crate, since the kit,
+# too, gives LLVM the whole program as one module.
 CRATES = """
-    pf_values pf_text pf_render pf_bounds pf_reduce pf_probes pf_canon pf_compare pf_literals pf_posix pf_whole fmtcanon_c
+    pf_values pf_text pf_render pf_bounds pf_reduce pf_probes pf_canon pf_compare pf_literals pf_posix pf_whole
+    fmtcanon_c
 """.split()
 OF_KIT = "arrayvec itoa memchr smallvec".split()
 PATHS = re.compile(rf"(?<![\w:])(?:{'|'.join(CRATES)})(?=::)")
@@ -66,7 +67,9 @@ def write_crates(folder, texts):
             file.write_text(as_rust(text, name), encoding="utf-8")
         (folder / name / "lib.rs").rename(folder / name / "mod.rs")
     (folder / "kit.rs").write_text((BENCH / "kit.rs").read_text(encoding="utf-8"), encoding="utf-8")
-    (folder / "calls.rs").write_text(as_rust((BENCH / "calls.rattle").read_text(encoding="utf-8"), "calls"), encoding="utf-8")
+    (folder / "calls.rs").write_text(
+        as_rust((BENCH / "calls.rattle").read_text(encoding="utf-8"), "calls"), encoding="utf-8"
+    )
     modules = "\n".join(f"mod {name};" for name in [*CRATES, "kit", "calls"])
     (folder / "lib.rs").write_text(f"#![feature({FEATURES})]\n{modules}\n", encoding="utf-8")
 
@@ -76,6 +79,18 @@ def build(folder, texts=None):
     folder.mkdir(parents=True, exist_ok=True)
     write_crates(folder, texts or {})
     library = folder / "libunproved.a"
-    output(["rustc", *FLAGS.split(), "--crate-type", "staticlib", "--crate-name", "unproved", folder / "lib.rs", "-o", library])
+    output(
+        [
+            "rustc",
+            *FLAGS.split(),
+            "--crate-type",
+            "staticlib",
+            "--crate-name",
+            "unproved",
+            folder / "lib.rs",
+            "-o",
+            library,
+        ]
+    )
     for program in ("driver", "library"):
         output([*GCC, BENCH / f"{program}.c", library, "-Wl,-z,now", "-o", folder / program])

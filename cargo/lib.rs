@@ -1,12 +1,12 @@
 //! Reads printf formats of C, brings each to one canonical spelling, and decides whether two mean the same.
 //!
-//! A format is bytes without NUL. A [`Model`] says how many bits `long` and `size_t` have where the format is used. The calls
-//! of this page accept the *profile*: the conversions `d i u o x X b c s` and `%%`, with the flags and length modifiers that C
-//! defines for them, and widths and precisions up to 4,095. [`whole`] also accepts `%f`, `%p`, `%n`, `*`, `%ls` and, for
-//! types, numbered arguments. [`literals`] reads the string literals of C that formats are written as.
+//! A format is bytes without NUL. A [`Model`] says how many bits `long` and `size_t` have where the format is used. The
+//! calls of this page accept the *profile*: the conversions `d i u o x X b c s` and `%%`, with the flags and length
+//! modifiers that C defines for them, and widths and precisions up to 4,095. [`whole`] also accepts `%f`, `%p`, `%n`,
+//! `*`, `%ls` and, for types, numbered arguments. [`literals`] reads string literals of C, as formats are written.
 //!
-//! What isn't accepted is rejected by a [`Refusal`]: a reason, and the offset of a byte. Calls that allocate return it if memory
-//! is refused.
+//! What isn't accepted is rejected by a [`Refusal`]: a reason, and the offset of a byte. Calls that allocate also
+//! return an error if memory is refused.
 //!
 //! ```
 //! use fmtcanon::*;
@@ -38,8 +38,8 @@
 //! assert_eq!(writer.into_inner(), b"%d items: +0042");
 //! ```
 //!
-//! These are the sources of the proved libraries of fmtcanon without their contracts. What rustc makes of them isn't proved:
-//! the README says what is, and what this package is tested for.
+//! These are the sources of the proved libraries of fmtcanon without their contracts. What rustc makes of them isn't
+//! proved: the README says what else isn't, and what this package is tested for.
 
 #![cfg_attr(not(feature = "c"), forbid(unsafe_code))]
 #![deny(missing_docs)]
@@ -47,12 +47,11 @@
 #![allow(dead_code, unused_imports, unused_variables)]
 
 #[cfg(feature = "c")]
+#[allow(clippy::style, clippy::complexity)]
+mod c;
+// All that the libraries show one another, for the program. It has no promise. Bodies have the form that was proved.
 #[doc(hidden)]
-#[allow(missing_docs)]
-pub mod c;
-// All that the libraries show one another, for the program. It has no promise.
-#[doc(hidden)]
-#[allow(missing_docs)]
+#[allow(missing_docs, clippy::style, clippy::complexity)]
 pub mod proved;
 #[doc(hidden)]
 pub mod support;

@@ -1,17 +1,22 @@
+//! The program: it runs the command of its words over the standard streams.
+
 #![forbid(unsafe_code)]
 // Contracts, which are left out, use some of them.
 #![allow(dead_code, unused_imports, unused_variables)]
-//! The program: it runs the command of its words over the standard streams.
 
 mod command_line;
+#[allow(clippy::style, clippy::complexity)]
 mod program;
 
 use fmtcanon::Counted;
 use program::outcome::{Outcome, report};
 use program::run::run;
-#[cfg(any(unix, windows))]
 use std::fs::File;
 use std::io::{BufReader, BufWriter};
+#[cfg(not(windows))]
+use std::os::fd::AsFd as Stream;
+#[cfg(windows)]
+use std::os::windows::io::AsHandle as Stream;
 use std::process::ExitCode;
 use std::{env, io};
 
@@ -36,17 +41,10 @@ fn run_words() -> Outcome {
 }
 
 // A standard stream as a file: `io::stdout` and `io::stdin` hide that the system refuses a call.
-#[cfg(unix)]
-fn file_of(stream: impl std::os::fd::AsFd) -> io::Result<File> {
-    Ok(File::from(stream.as_fd().try_clone_to_owned()?))
-}
-
-#[cfg(windows)]
-fn file_of(stream: impl std::os::windows::io::AsHandle) -> io::Result<File> {
-    Ok(File::from(stream.as_handle().try_clone_to_owned()?))
-}
-
-#[cfg(not(any(unix, windows)))]
-fn file_of<T>(stream: T) -> io::Result<T> {
-    Ok(stream)
+fn file_of(stream: impl Stream) -> io::Result<File> {
+    #[cfg(not(windows))]
+    let copy = stream.as_fd().try_clone_to_owned()?;
+    #[cfg(windows)]
+    let copy = stream.as_handle().try_clone_to_owned()?;
+    Ok(File::from(copy))
 }

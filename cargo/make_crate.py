@@ -2,9 +2,9 @@
 
     make_crate.py FOLDER
 
-The libraries become modules of one library, below `proved`, which `lib.rs` hands out a part of; the program becomes its
-binary. Contracts are left out (`strip.py`), and so is the allocator that calls of the kit's libraries pass: there is one.
-Nothing in the folder is to be edited or kept.
+The libraries become modules of one library, below `proved`, which `lib.rs` hands out a part of; the program becomes
+its binary. Contracts are left out (`strip.py`), and so is the allocator that calls of the kit's libraries pass: there
+is one. Nothing in the folder is to be edited or kept.
 """
 
 import re
@@ -18,18 +18,13 @@ ROOT = CARGO.parent
 sys.path.append(str(ROOT))
 
 from cargo.strip import replaced, stripped  # noqa: E402
-from tests.mutants.rattle_functions import NO_CODE, blanked  # noqa: E402
+from tests.mutants.rattle_functions import NO_CODE  # noqa: E402
 
-# The libraries, and the modules that they become, lowest first.
-MODULES = {
-    name: name.removeprefix("pf_")
-    for name in """
-        pf_values pf_text pf_render pf_bounds pf_reduce pf_probes pf_canon pf_compare pf_literals pf_posix pf_whole
-    """.split()
-}
-PROGRAM = "fmtcanon"
+# The libraries, lowest first, without their `pf_`, and the paths of the modules that the crates become.
+LIBRARIES = "values text render bounds reduce probes canon compare literals posix whole".split()
 C = "fmtcanon_c"
-PATHS = re.compile(rf"(?<![\w:])(?:{'|'.join(MODULES)})(?=::)")
+MODULES = {**{f"pf_{name}": f"proved::{name}" for name in LIBRARIES}, C: "c"}
+PATHS = re.compile(rf"(?<![\w:])pf_(?:{'|'.join(LIBRARIES)})(?=::)")
 
 # The allocator, which is no parameter here.
 ALLOCATOR = [
@@ -43,18 +38,42 @@ ALLOCATOR = [
 ]
 # The kit's libraries that differ from those of Rust, and vectors of both, whose calls have names of their own if they
 # return that memory is refused.
-LIBRARIES = [
+KIT = [
     (r"\bSmallVec<(\w+), (\w+)>", r"SmallVec<[\1; \2]>"),
-    (r"\bVec::(with_capacity|from_elem|from_slice)\(", r"support::vec_\1("),
-    (r"\bCounted::new\((Vec::new\(\)|bytes)\)", r"Counted::new(support::Grown(\1))"),
+    (r"\bVec::(with_capacity|from_elem|from_slice)\(", r"crate::support::vec_\1("),
+    (r"\bCounted::new\((Vec::new\(\)|bytes)\)", r"Counted::new(crate::support::Grown(\1))"),
     (r"\bwriter\.into_inner\(\)", "writer.into_inner().0"),
-    (r"^use std::borrow::CowSlice;\n", "use crate::support::CowSlice;\n"),
+    (r"^use std::borrow::CowSlice;\n", "use std::borrow::Cow;\n"),
+    (r"\bCowSlice<('a), u8>", r"Cow<\1, [u8]>"),
+    (r"\bCowSlice::", "Cow::"),
+    (r"\b(\w*bytes)\.as_slice\(\)", r"&\1[..]"),
     (r"^use std::simd::prelude::\*;\n", "use crate::support::simd::*;\n"),
+    (r"\bSimd::<u8, N>", "Simd::<N>"),
+    (r"\bu8x(\d+)\b", r"Simd::<\1>"),
     (r"^use itoa::write_digits;\n", "use crate::support::write_digits;\n"),
+    (r"^(?:pub )?(?:mod|use) devices\b[^;]*;\n", ""),
 ]
-# `self.push` is a call of a type's own.
-FALLIBLE = re.compile(r"(?<=\.)((?<!\bself\.)push|extend_from_slice|resize|reserve|reserve_exact)(?=\()")
-STATEMENT = re.compile(r"[ \t]*[\w.]+\Z")
+# Calls that grow a vector get `try_`, except statements: they can't fail. `self.push` is a call of a type's own.
+GROUP = r"\((?:[^()]|\((?:[^()]|\([^()]*\))*\))*\)"
+GROWS = r"(?:(?<!\bself\.)push|extend_from_slice|reserve|reserve_exact)"
+FALLIBLE = rf"^([ \t]*[\w.]+\.{GROWS}{GROUP};)|(?<=\.){GROWS}(?=\()"
+GROWING = [(FALLIBLE, lambda found: found[1] or f"try_{found[0]}")]
+# Rust's clap returns no error where it builds a command, and takes texts that are there for the life of the process.
+COMMANDS = [
+    (r"Result<Command<'a>, AllocError>", "Command"),
+    (r"\bOk\(command\)", "command"),
+    (r"\?", ""),
+    (r"<'a>", ""),
+    (r"&'a ", "&'static "),
+]
+CLAP = [
+    (r"^use clap::\{?ArgMatches\b.*\n", r"use crate::command_line::Values;\n\g<0>"),
+    (r"&ArgMatches<'\w+>", "&'static ArgMatches"),
+    (r"\bOk\(matches\) => matches,", "Ok(matches) => &*Box::leak(Box::new(matches)),"),
+    (r"\blet Ok\(command\) = definition\(\) else \{[^}]*\};", "let command = definition();"),
+    (r"\bif error\.kind\(\) == ErrorKind::OutOfMemory \{[^}]*\}", ""),
+    (r"\.value_parser\(row\.models\)", ".value_parser(row.models.to_vec())"),
+]
 
 
 def in_code(text, rules):
@@ -69,99 +88,71 @@ def in_code(text, rules):
     return re.sub(r"\0(\d+)\0", lambda found: kept[int(found[1])], code)
 
 
-def call_end(code, start):
-    """The offset after the parenthesis that closes the one at start."""
-    depth = 0
-    for at in range(start, len(code)):
-        depth += {"(": 1, ")": -1}.get(code[at], 0)
-        if depth == 0:
-            return at + 1
-    raise ValueError("a parenthesis is not closed")
-
-
-def fallible(text):
-    """The text with `try_` before the calls that grow a vector, except those that are statements: they can't fail."""
-    code, parts, at = blanked(text), [], 0
-    if re.search(r"\bArrayVec\b", code) and not re.search(r"\b(?:Vec|AllocError)\b", code):
-        return text
-    for found in FALLIBLE.finditer(code):
-        line = code.rfind("\n", 0, found.start()) + 1
-        alone = STATEMENT.match(code, line, found.start()) and code[call_end(code, found.end())] == ";"
-        parts.append(text[at : found.start(1)] + ("" if alone else "try_"))
-        at = found.start(1)
-    return "".join([*parts, text[at:]])
-
-
-def with_imports(text):
-    """The text with what it needs of `support`."""
-    code = blanked(text)
-    needed = []
-    if re.search(r"\.try_(?:push|extend_from_slice|resize)\(", code):
-        needed.append("use crate::support::TryVec;\n")
-    if re.search(r"(?<!::)\bsupport::(?:vec_|Grown)", code):
-        needed.append("use crate::support;\n")
-    return re.sub(r"\A((?://!.*\n)*\n?)", lambda head: head[1] + "".join(needed), text)
-
-
 def as_rust(text):
-    """A source file of a library or the program as Rust."""
-    text = in_code(stripped(text), [*ALLOCATOR, *LIBRARIES])
-    text = with_imports(fallible(text))
-    # What clauses left.
-    text = re.sub(r"^#\[derive\(\)\]\n", "", text, flags=re.MULTILINE)
-    text = re.sub(r"\n\s*\n(?=[ \t]*[{;])", "\n", text)
-    return re.sub(r"\n{3,}", "\n\n", text)
+    """A source file as Rust."""
+    text = in_code(stripped(text), [*ALLOCATOR, *KIT])
+    # A vector of the stack alone stays as it is.
+    if not re.search(r"\bArrayVec\b", text) or re.search(r"\b(?:Vec|AllocError)\b", text):
+        text = in_code(text, GROWING)
+    if ".try_" in text:
+        text = re.sub(r"\A((?://!.*\n)*\n?)", r"\1use crate::support::{TryExtend, TryPush};\n", text)
+    return text
 
 
-def of_library(text, path):
-    """A source file of the library at a path of this one as Rust."""
-    text = re.sub(r"\bcrate::(?!support)", f"crate::{path}::", as_rust(text))
-    text = re.sub(r"^(?:pub )?(?:mod|use) devices\b[^;]*;\n", "", text, flags=re.MULTILINE)
-    text = PATHS.sub(lambda found: f"crate::proved::{MODULES[found[0]]}", text)
-    return re.sub(rf"\b(?:{'|'.join(MODULES)})\b", lambda found: MODULES[found[0]], text)
-
-
-# The calls of the C library. They stay calls of Rust, which `exports` calls with slices of what C passes.
-C_CALL = re.compile(r"#\[unsafe\(no_mangle\)\]\npub extern \"C\" fn (\w+)\(([^)]*)\)( -> \w+)")
-C_SLICE = re.compile(r"&(mut |)\[(.*)\]$")
-C_LIBRARY = [
-    (C_CALL.pattern, r"pub fn \1(\2)\3"),
-    (r"pub string: &'a \[u8\]", "pub string: crate::support::c_slices::Bytes<'a>"),
+# The calls of the C library, whose parameters are slices and places.
+C_CALL = r"(?<=#\[unsafe\(no_mangle\)\]\n)pub extern \"C\" fn (\w+)\(([^)]*)\)( -> \w+)\s*\{"
+C_STRING = [
+    (r"\bstring: &'a \[u8\]", "string: crate::support::c_slices::Bytes<'a>"),
     (r"\bself\.string\b", "self.string.get()"),
-    (r"\bpub\(crate\) struct\b", "pub struct"),
 ]
 
 
 def c_parameter(name, kind):
-    """How C passes a parameter, and what of Rust that becomes."""
-    if slice_of := C_SLICE.match(kind):
-        pointer = "*mut" if slice_of[1] else "*const"
-        of = f"slices::slice{'_mut' if slice_of[1] else ''}({name}, {name}_len)"
-        return f"{name}: {pointer} {slice_of[2]}, {name}_len: usize", of
-    if kind.startswith("&mut "):
-        of = f"slices::place({name}, &mut slices::zeroed())"
-        return f"{name}: *mut {kind.removeprefix('&mut ')}", of
-    return f"{name}: {kind}", name
+    """How C passes a parameter, and the line that makes of it what the body takes."""
+    if of := re.match(r"&(mut )?\[(.*)\]$", kind):
+        pointer, call = ("*mut", "slice_mut") if of[1] else ("*const", "slice")
+        made = f"let {name} = unsafe {{ crate::support::c_slices::{call}({name}, {name}_len) }};\n"
+        return f"{name}: {pointer} {of[2]}, {name}_len: usize", made
+    if place := re.match(r"&mut (.*)", kind):
+        made = f"let mut no_{name} = unsafe {{ std::mem::zeroed() }};\n"
+        made += f"let {name} = unsafe {{ {name}.as_mut() }}.unwrap_or(&mut no_{name});\n"
+        return f"{name}: *mut {place[1]}", made
+    return f"{name}: {kind}", ""
 
 
-def c_exports(text, module):
-    """The calls of a file of the C library as C sees them."""
-    parts = []
-    for name, listed, result in C_CALL.findall(in_code(text, ALLOCATOR)):
-        parameters = [it.strip().split(": ", 1) for it in listed.split(",") if it.strip()]
-        passed = [c_parameter(*it) for it in parameters]
-        parts.append(
-            f'#[unsafe(no_mangle)]\npub unsafe extern "C" fn {name}({", ".join(it for it, _ in passed)}){result} {{\n'
-            f"    unsafe {{ {module}::{name}({', '.join(it for _, it in passed)}) }}\n}}\n"
-        )
-    return "".join(parts)
+def as_c_calls(found):
+    """A call of the C library, up to its body, as C calls it."""
+    name, listed, result = found.groups()
+    parameters = [c_parameter(*it.strip().split(": ", 1)) for it in listed.split(",") if it.strip()]
+    passed = ", ".join(it for it, _ in parameters)
+    return f'pub unsafe extern "C" fn {name}({passed}){result} {{\n{"".join(it for _, it in parameters)}'
+
+
+def of_library(text, name):
+    """A source file of a library as Rust."""
+    text = as_rust(in_code(text, C_STRING) if name == C else text)
+    text = re.sub(r"\bcrate::(?!support)", f"crate::{MODULES[name]}::", text)
+    text = PATHS.sub(lambda found: f"crate::{MODULES[found[0]]}", re.sub(C_CALL, as_c_calls, text))
+    return re.sub(rf"\bpf_(?=(?:{'|'.join(LIBRARIES)})\b)", "", text)
 
 
 def of_program(text):
-    text = as_rust(text).replace("crate::support", "fmtcanon::support")
-    text = re.sub(r"\bcrate::", "crate::program::", text)
-    text = re.sub(r"(?<![\w:])clap::", "crate::command_line::", text)
-    return PATHS.sub(lambda found: f"fmtcanon::proved::{MODULES[found[0]]}", text)
+    """A source file of the program as Rust."""
+    text = in_code(as_rust(text), CLAP).replace("crate::support", "fmtcanon::support")
+    if "Result<Command<'a>" in text:
+        text = in_code(text, COMMANDS)
+    text = re.sub(r'\.version\("([^"]*)"\)', r'.version("\1 (built by cargo, not proved)")', text)
+    text = re.sub(r"\bcrate::(?!command_line)", "crate::program::", text)
+    return PATHS.sub(lambda found: f"fmtcanon::{MODULES[found[0]]}", text)
+
+
+def sources(name):
+    """The files of a crate below its `src`, without laws, whose bodies are empty, tests, and devices for them."""
+    folder = ROOT / "crates" / name / "src"
+    for path in sorted(folder.rglob("*.rt")):
+        place = path.relative_to(folder)
+        if path.stem not in ("laws", "tests", "main") and place.parts[0] not in ("devices", "devices.rt"):
+            yield place.with_suffix(".rs"), path.read_text(encoding="utf-8")
 
 
 def write(path, text):
@@ -169,59 +160,31 @@ def write(path, text):
     path.write_text(text, encoding="utf-8")
 
 
-def sources(name):
-    """The files of a crate below its `src`, without tests, laws, whose bodies are empty, and devices, which tests use."""
-    folder = ROOT / "crates" / name / "src"
-    for path in sorted(folder.rglob("*.rt")):
-        place = path.relative_to(folder)
-        if path.stem not in ("laws", "tests") and place.parts[0] not in ("devices", "devices.rt"):
-            yield place.with_suffix(".rs"), path.read_text(encoding="utf-8")
-
-
-def make_libraries(folder):
-    """Writes the libraries."""
-    for name, module in MODULES.items():
-        for place, text in sources(name):
-            place = "mod.rs" if str(place) == "lib.rs" else place
-            write(folder / module / place, of_library(text, f"proved::{module}"))
-    modules = "".join(f"pub mod {it};\n" for it in MODULES.values())
-    write(folder / "mod.rs", f"//! The libraries, whose sources are proved with their contracts.\n\n{modules}")
-
-
-def make_program(folder):
-    """Writes the program without its `main`."""
-    files = [(place, text) for place, text in sources(PROGRAM) if place.stem != "main"]
-    for place, text in files:
-        write(folder / place, of_program(text))
-    write(folder / "mod.rs", "//! The commands.\n\n" + "".join(f"pub mod {place.stem};\n" for place, _ in files))
-
-
-def make_c(folder):
-    """Writes the calls of the C library: as calls of Rust, and as C sees them."""
-    files = [(place, text) for place, text in sources(C) if place.stem != "lib"]
-    for place, text in files:
-        write(folder / place, of_library(replaced(stripped(text), C_LIBRARY), "c"))
-    head = "//! The calls of the C library, which `fmtcanon.h` declares.\n#![allow(clippy::missing_safety_doc, unused_unsafe)]\n\n"
-    modules = [place.stem for place, _ in files]
-    uses = "use super::*;\nuse crate::support::c_slices as slices;\n"
-    structs = "".join(f"use super::{it}::*;\n" for it in modules)
-    write(folder / "mod.rs", head + "".join(f"pub mod {it};\n" for it in modules) + "pub mod exports;\n")
-    exports = "".join(c_exports(stripped(text), place.stem) for place, text in files)
-    write(folder / "exports.rs", head.replace("unused_unsafe", "unused_unsafe, unused_imports") + uses + structs + exports)
-
-
 def make(folder):
     shutil.rmtree(folder / "src", ignore_errors=True)
-    make_libraries(folder / "src/proved")
-    make_program(folder / "src/program")
-    make_c(folder / "src/c")
+    for name, path in MODULES.items():
+        for place, text in sources(name):
+            place = "mod.rs" if str(place) == "lib.rs" else place
+            write(folder / "src" / path.replace("::", "/") / place, of_library(text, name))
+    modules = "//! The libraries, whose sources are proved with their contracts.\n\n"
+    write(folder / "src/proved/mod.rs", modules + "".join(f"pub mod {name};\n" for name in LIBRARIES))
+    commands = dict(sources("fmtcanon"))
+    for place, text in commands.items():
+        write(folder / "src/program" / place, of_program(text))
+    modules = "//! The commands.\n\n" + "".join(f"pub mod {place.stem};\n" for place in commands)
+    write(folder / "src/program/mod.rs", modules)
+    copy_own(folder)
+    subprocess.run(["cargo", "fmt"], cwd=folder, check=True)
+
+
+def copy_own(folder):
+    """Writes the files that are not made."""
     version = (ROOT / "VERSION").read_text(encoding="utf-8").strip()
     write(folder / "Cargo.toml", (CARGO / "Cargo.toml.in").read_text(encoding="utf-8").replace("@VERSION@", version))
-    for name in ("lib.rs", "main.rs", "command_line.rs", "support/mod.rs", "support/simd.rs", "support/c_slices.rs"):
-        write(folder / "src" / name, (CARGO / name).read_text(encoding="utf-8"))
+    for file in [*CARGO.glob("*.rs"), *CARGO.glob("support/*.rs")]:
+        write(folder / "src" / file.relative_to(CARGO), file.read_text(encoding="utf-8"))
     for file in (CARGO / "README.md", ROOT / "LICENSE", ROOT / "include/fmtcanon.h"):
         shutil.copy(file, folder / file.name)
-    subprocess.run(["cargo", "fmt"], cwd=folder, check=True)
 
 
 if __name__ == "__main__":

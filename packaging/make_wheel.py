@@ -2,10 +2,11 @@
 """Makes a wheel of the Python module with the C library inside, and the program if there is one. It installs without a
 compiler or a network.
 
-Usage: make_wheel.py FOLDER PROCESSOR LIBRARY [PROGRAM]
+Usage: make_wheel.py FOLDER PLATFORM LIBRARY [PROGRAM]
 
-LIBRARY is the shared library. The metadata comes from python/pyproject.toml and the file VERSION. The name says which
-version of the GNU C library the wheel needs: the latest that the library or the program needs.
+LIBRARY is the shared library. The metadata comes from python/pyproject.toml and the file VERSION. PLATFORM is a
+processor, for Linux: then the name says which version of the GNU C library the wheel needs, the latest that the library
+or the program needs. Otherwise it is the platform tag of another system, as win_amd64 or macosx_11_0_arm64.
 """
 
 import base64
@@ -20,6 +21,8 @@ from needed_glibc import needed_glibc
 TOP = Path(__file__).resolve().parent.parent
 VERSION = (TOP / "VERSION").read_text(encoding="utf-8").strip()
 SONAME = f"libfmtcanon.so.{VERSION.split('.')[0]}"
+# The library's file on other systems, by the first part of their tags: the module looks for these names.
+OTHER_SYSTEMS = {"macosx": "libfmtcanon.dylib", "win": "fmtcanon.dll"}
 PROGRAM = "fmtcanon/program"
 # Each file of a wheel has one time, so that the same files make the same wheel.
 TIME = (1980, 1, 1, 0, 0, 0)
@@ -72,11 +75,19 @@ def files_of(binaries, information, tag, texts, lists):
     yield f"{information}/LICENSE", (TOP / "LICENSE").read_bytes()
 
 
-def main(folder, processor, *files):
+def placed(platform, files):
+    """The name of the library's file on a platform, and the wheel's tag."""
+    system = platform.partition("_")[0]
+    if system in OTHER_SYSTEMS:
+        return OTHER_SYSTEMS[system], f"py3-none-{platform}"
+    return SONAME, "py3-none-manylinux_{}_{}_{}".format(*needed_glibc(*files), platform)
+
+
+def main(folder, platform, *files):
     texts, lists = project()
-    tag = "py3-none-manylinux_{}_{}_{}".format(*needed_glibc(*files), processor)
+    library, tag = placed(platform, files)
     # Without a program, `zip` ends after the library.
-    binaries = dict(zip([f"fmtcanon/{SONAME}", PROGRAM], map(Path, files)))
+    binaries = dict(zip([f"fmtcanon/{library}", PROGRAM], map(Path, files)))
     name = f"fmtcanon-{VERSION}"
     information, record = f"{name}.dist-info", []
     wheel = Path(folder) / f"{name}-{tag}.whl"

@@ -1,4 +1,5 @@
-"""Makes a crate of the C library's functions with a `main` that calls each, since `rt try` compiles what a program reaches.
+"""Makes a crate of the C library's functions with a `main` that calls each, since `rt try` compiles what a program
+reaches.
 
 Usage: c_crate.py FOLDER, at the top of the repository. The crate is FOLDER/crates/quick_c, and the others are links.
 """
@@ -67,7 +68,10 @@ def main():
         text = file.read_text(encoding="utf-8")
         if name == "main.rt":
             inside = "".join(f"    {it}\n" for it in calls())
-            text += f"\nuse std::alloc::Global;\nuse std::process::ExitCode;\n\nfn calls(alloc: Global) {{\n{inside}}}\n\n{END}"
+            text += (
+                f"\nuse std::alloc::Global;\nuse std::process::ExitCode;\n\nfn calls(alloc: Global) {{\n{inside}}}\n\n"
+                f"{END}"
+            )
         (crate / "src" / name).write_text(text, encoding="utf-8")
     lines = (TOP / "crates.txt").read_text(encoding="utf-8")
     [needs] = re.findall(r"^fmtcanon_c staticlib(:.*)$", lines, re.MULTILINE)

@@ -1,7 +1,6 @@
 """Brings printf formats to a canonical text, and says whether two are interchangeable.
 
-This is a binding of the C library `libfmtcanon` by ctypes. Only a `Session` runs the program, which is for x86-64:
-it asks one process about many formats, and needs no library.
+This is a binding of the C library `libfmtcanon` by ctypes.
 
 A format is a `str` or bytes. A `str` is passed in UTF-8, and offsets count bytes. Pass bytes if a format isn't
 UTF-8. Each call raises `Refused` if the format is rejected, `MemoryError` if it is out of memory, and
@@ -83,7 +82,6 @@ from .passing import passed
 from .pieces import Directive, Percent, Shown, Text, directive_of, words_of
 from .prototypes import CALLS, CBounds, CComparison, CDirective, CError, CSpecification
 from .rejected import specification_in as _specification_in
-from .sessions import Reply, Session
 from .specification import Specification, SpelledSpecification
 
 __all__ = [
@@ -98,8 +96,6 @@ __all__ = [
     "Part",
     "Percent",
     "Refused",
-    "Reply",
-    "Session",
     "Specification",
     "Text",
     "Type",
@@ -570,7 +566,8 @@ def printed(format: Format, arguments: Sequence[Optional[_Argument]], *, model: 
 def _parts_of(
     text: bytes, arguments: Sequence[Optional[_Argument]], model: Model
 ) -> Tuple[List[bytes], List[bytes], List[_Argument]]:
-    """Returns the words of a format, the directives between them, with `%s` for each placeholder, and what they take."""
+    """Returns the words of a format, the directives between them, with `%s` for each placeholder, and what they take.
+    """
     words: List[bytes] = []
     known: List[bytes] = []
     given: List[_Argument] = []

@@ -13,7 +13,8 @@ NOT_FOUND = 127
 
 
 def found(name: str) -> str:
-    """Returns the file of the program. Raises `FileNotFoundError` if it isn't there, or if it is this command itself."""
+    """Returns the file of the program. Raises `FileNotFoundError` if it isn't there, or if it is this command itself.
+    """
     file = shutil.which(name)
     if file is None or (os.path.exists(sys.argv[0]) and os.path.samefile(file, sys.argv[0])):
         raise FileNotFoundError(errno.ENOENT, os.strerror(errno.ENOENT))

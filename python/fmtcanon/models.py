@@ -22,9 +22,6 @@ class Model(enum.IntEnum):
 # A data model, or its name in upper or lower case.
 DataModel = Union[Model, str]
 
-# Sets of data models that some commands of the program accept.
-SETS = ("both", "all")
-
 
 def model_of(model: DataModel) -> Model:
     """Returns the data model that an argument names. Raises `ValueError` if it names none."""
@@ -34,10 +31,3 @@ def model_of(model: DataModel) -> Model:
         if one.name == model.upper():
             return one
     raise ValueError(f"{model!r} is not a data model: use lp64, ilp32 or llp64")
-
-
-def option_of(model: DataModel) -> str:
-    """Returns the value of the option `--model`: the name of a data model, or of a set of them."""
-    if isinstance(model, str) and model.lower() in SETS:
-        return model.lower()
-    return model_of(model).name.lower()

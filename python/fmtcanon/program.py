@@ -1,18 +1,14 @@
 """The program `fmtcanon`: which file it is, and what is said if it can't be run.
 
-Only `Session` and `python -m fmtcanon` run it. It is the one that the environment variable FMTCANON_PROGRAM names,
-otherwise the file `program` next to this module, where an installation puts it, otherwise `fmtcanon` on the search path.
+Only `python -m fmtcanon` runs it. It is the one that the environment variable FMTCANON_PROGRAM names,
+otherwise the file `program` next to this module, where an installation puts it, otherwise `fmtcanon` on the search
+path.
 """
 
 import os
 from pathlib import Path
 
-# What the program says if it is out of memory.
-OUT_OF_MEMORY = "out of memory"
-_NEED = (
-    "`Session` and `python -m fmtcanon` need the program, which is for x86-64: install it, or name its file by "
-    "FMTCANON_PROGRAM"
-)
+_NEED = "`python -m fmtcanon` needs the program, which is for x86-64: install it, or name its file by FMTCANON_PROGRAM"
 
 
 def program() -> str:

@@ -29,7 +29,8 @@ NOTHING = Specification(0, 0, 0, 0, 0, 0, None, None, None, None, None, None, Pa
 
 
 def specification_in(text: bytes, refusal: fmtcanon.Refused) -> Optional[Specification]:
-    """Returns what is known of the specification in which a text is rejected, as `Specification` has it; None outside."""
+    """Returns what is known of the specification in which a text is rejected, as `Specification` has it; None outside.
+    """
     if refusal.kind is Kind.MISSING_ARGUMENT:
         return leaving_out(text)
     at = refusal.byte

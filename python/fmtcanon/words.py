@@ -1,8 +1,9 @@
 """The words that all commands use, in one table for every reader of it, also in other languages.
 
-A row of the table has the conversions that it is about, or none for all; what it asks of a specification, by tokens, where
-one that begins with `!` must not be there; and a phrase with names in braces. The first row that fits is taken. A sentence
-has one phrase of each group of `meaning`, and `needless` has reasons by the name of the part, as in `parts` by its bit.
+A row of the table has the conversions that it is about, or none for all; what it asks of a specification, by tokens,
+where one that begins with `!` must not be there; and a phrase with names in braces. The first row that fits is taken. A
+sentence has one phrase of each group of `meaning`, and `needless` has reasons by the name of the part, as in `parts` by
+its bit.
 """
 
 import json

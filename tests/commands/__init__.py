@@ -1,5 +1,8 @@
-"""Tests of the commands in Python."""
+"""Tests of the commands in Python, and of the module. Commands that they run in other folders find the module, too."""
 
-from tests.frame import package
+import os
 
+from tests.frame import TOP, package
+
+os.environ["PYTHONPATH"] = str(TOP / "python")
 load_tests = package(__file__)

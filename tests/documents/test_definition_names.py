@@ -1,7 +1,7 @@
 """The names of definitions: a name means one thing, whichever crate defines it, and a thing has one name.
 
-The `specs/` of two crates define no name, except a few with a reason each. What the whole language has of its own bears the
-name that the profile gives it, with `Whole` before it, and not the name of a standard.
+The `specs/` of two crates define no name, except a few with a reason each. What the whole language has of its own bears
+the name that the profile gives it, with `Whole` before it, and not the name of a standard.
 """
 
 import re

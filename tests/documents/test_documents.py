@@ -1,5 +1,5 @@
-"""Checks the documents against the code: their names, paths, options, callers, numbers, words and versions, and the map;
-and that definitions have distinct names, and that each name is used.
+"""Checks the documents against the code: their names, paths, options, callers, numbers, words and versions, and the
+map; and that definitions have distinct names, and that each name is used.
 """
 
 import json
@@ -7,9 +7,10 @@ import math
 import re
 
 from bench import charts, shortcut_edits
-from tests.commands import changes, first_screen
-from tests.commands import more_replace as replacing
-from tests.commands.reader import SHOWN
+from tests.commands.diff import changes
+from tests.commands.replace import more_replace as replacing
+from tests.commands.shared import first_screen
+from tests.commands.shared.reader import SHOWN
 from tests.documents.test_words import pages
 from tests.frame.cases import tests_of
 from tests.frame.harness import TOP, fences, model_rows, section, usage_texts
@@ -35,11 +36,14 @@ MODEL_COMMANDS = ["canon", "same", "format", "show", "stream", "types"]
 # kit, and placeholders.
 FOREIGN_NAMES = set(
     """
-    libos_c rattle_alloc rattle_dealloc rattle_realloc rattle_arg rattle_env rattle_env_at rattle_errno rattle_set_errno chdir getcwd
+    libos_c rattle_alloc rattle_dealloc rattle_realloc rattle_arg rattle_env rattle_env_at rattle_errno
+    rattle_set_errno chdir getcwd
     cents errno intmax_t ptrdiff_t strerror uintmax_t I64
-    xargs git sort msgfmt pipefail SOURCE_DATE_EPOCH fix plant PKG_CONFIG_PATH PYTHONPATH ldconfig pkg config cflags libs pkgconfig sudo iconv
+    xargs git sort msgfmt pipefail SOURCE_DATE_EPOCH fix plant PKG_CONFIG_PATH PYTHONPATH ldconfig pkg config cflags
+    libs pkgconfig sudo iconv
     axiom axioms abort incremental nat trusted
-    Abort AllocFailed WHAT strsim dac8208d650f15bf ed8637e01fc3206ec782c5daf8d913b1fcd4ddf4efb850537416d13256281534 the_type write_all
+    Abort AllocFailed WHAT strsim dac8208d650f15bf ed8637e01fc3206ec782c5daf8d913b1fcd4ddf4efb850537416d13256281534
+    the_type write_all
     NAME PATH allow holes lemma is_left_justified echo_of expect assert_eq tidy XDG_CACHE_HOME
     bear psm2_epid_t win64
     FileType RET buf_attach_client init_options nvim_create_autocmd root_dir start_client
@@ -113,7 +117,9 @@ def tested_counts():
         5 * texts,
         6 * shapes,
     ]
-    yield r"(\d+) made lists of words", [int(number_in("tests/commands/more_hostile_words.py", r'"HOSTILE_LISTS", ([\d_]+)'))]
+    yield r"(\d+) made lists of words", [
+        int(number_in("tests/commands/hostile/more_hostile_words.py", r'"HOSTILE_LISTS", ([\d_]+)'))
+    ]
     yield r"flags, widths, precisions and values \| (\d+) directives", [definition_of_numbers.COUNT]
     yield r"other programs' test suites, and worked rows \| (\d+) and (\d+) \|", [
         data_count("vectors.txt"),
@@ -165,7 +171,9 @@ def tested_counts():
     yield r"have different sentences \| (\d+) and (\d+) directives; (\d+) and (\d+) \|", told
     yield from limits()
     yield r"the rows and (\d+) random formats and pairs", [more_module.RANDOM]
-    yield r"`fmtcanon-explain`, for (\d+) random formats and (\d+) pairs; what Chromium", [more_page.FORMATS, more_page.PAIRS]
+    yield r"`fmtcanon-explain`, for (\d+) random formats and (\d+) pairs; what Chromium", [
+        more_page.FORMATS, more_page.PAIRS
+    ]
     given = data_rows("records.jsonl")
     yield r"rows, (\d+) of them of a model; conversations; .* (\d+) rows", [len(given) - HAND_RECORDS, len(given)]
     yield r"(\d+) kinds of failure in rotation", [len(short_streams.STEPS) * len(short_streams.FAULTS)]
@@ -224,7 +232,8 @@ PLAIN_NUMBERS = [
 ]
 NUMBER_WORDS = dict(
     zip(
-        "two three four five six seven eight nine ten eleven twelve thirteen fourteen fifteen sixteen seventeen eighteen".split(),
+        "two three four five six seven eight nine ten eleven twelve thirteen fourteen fifteen sixteen seventeen "
+        "eighteen".split(),
         range(2, 19),
     )
 )
@@ -271,7 +280,9 @@ def lines_of(pattern, without=("/uses/src/tests", "/uses_low/src/tests")):
 
 
 def test_sizes(trials):
-    """The numbers of callers, of functions of C and of lines in docs/VERIFICATION.md; those of lines within a twentieth."""
+    """The numbers of callers, of functions of C and of lines in docs/VERIFICATION.md; those of lines within a
+    twentieth.
+    """
     text = with_digits((TOP / "docs/VERIFICATION.md").read_text(encoding="utf-8"))
     callers = [
         name
@@ -292,7 +303,10 @@ def test_sizes(trials):
         lines_of("python/fmtcanon/**/*.py"),
         tests,
     ]
-    pattern = r"About (\d+) lines of Rattle with their contracts, (\d+) lines of definitions, (\d+) lines of proofs, (\d+) lines of Python, and (\d+) lines of tests"
+    pattern = (
+        r"About (\d+) lines of Rattle with their contracts, (\d+) lines of definitions, (\d+) lines of proofs, (\d+) "
+        r"lines of Python, and (\d+) lines of tests"
+    )
     found = re.search(pattern, text)
     near = found and [abs(int(number) - count) * 20 <= count for number, count in zip(found.groups(), counts)]
     trials.expect(f"lines in docs/VERIFICATION.md, within a twentieth: {counts}", near, [True] * len(counts))
@@ -416,11 +430,15 @@ def test_changes(trials):
         row = re.search(rf"^\| {change} \| (.*) \|$", text, re.MULTILINE)[1]
         named = [it.name for it in sources if re.search(rf"\b{variant}\b", it.read_text(encoding="utf-8"))]
         trials.expect(f"whether files list {variant}", len(named) > 4, True)
-        trials.expect(f"files that list {variant} and aren't in the row of {change}", [it for it in named if it not in row], [])
+        trials.expect(
+            f"files that list {variant} and aren't in the row of {change}", [it for it in named if it not in row], []
+        )
 
 
 def test_map(trials):
-    """Each source file says in its first line what it does, and docs/internals/ARCHITECTURE.md has each crate and floor."""
+    """Each source file says in its first line what it does, and docs/internals/ARCHITECTURE.md has each crate and
+    floor.
+    """
     text = (TOP / "docs/internals/ARCHITECTURE.md").read_text(encoding="utf-8")
     for pattern, first in [("crates/*/src/**/*.rt", "//! "), ("python/fmtcanon/**/*.py", '"""')]:
         files = [it for it in TOP.glob(pattern) if not it.read_text(encoding="utf-8").startswith(first)]
@@ -525,7 +543,9 @@ def test_shortcuts(trials):
 
 def test_remarks(trials):
     """A remark after a command begins with `#`, so that the line can be copied."""
-    command = re.compile(r"^    (?=(?:sudo|pip|python3|rt|make|cd|cc|bench/run)\b)\S[^\n]*\S {2,}(?!#)\S.*$", re.MULTILINE)
+    command = re.compile(
+        r"^    (?=(?:sudo|pip|python3|rt|make|cd|cc|bench/run)\b)\S[^\n]*\S {2,}(?!#)\S.*$", re.MULTILINE
+    )
     found = [line.strip() for _, text in documents() for line in command.findall(text)]
     trials.expect("remarks after commands, without a #", found, [])
 

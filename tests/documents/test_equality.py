@@ -1,7 +1,7 @@
 """Checks that `==` of each type of the crates is the one that `derive` makes, which compares all that a value has.
 
-The contract of `PartialEq` asks for an equivalence only, so one written by hand could say that all values are equal, and
-tests that compare by it would see nothing.
+The contract of `PartialEq` asks for an equivalence only, so one written by hand could say that all values are equal,
+and tests that compare by it would see nothing.
 """
 
 import re

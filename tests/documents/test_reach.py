@@ -10,9 +10,9 @@ on definitions of FOLDER, and on those of `pf_posix`.
 No file that is reached names anything else than definitions of these folders, declarations of the code, and
 definitions of the library: a word of `proofs/` or of another crate could mean anything.
 
-What is reached is listed in reached.md, also what REFUSALS, those in the whole language, reach, and neither ACCEPTED nor
-FOLDER has. `python3 -m tests.documents.test_reach` writes that file. It has the sizes, too: also of what an answer of the
-program depends on, and of what the calls of the C library do. docs/VERIFICATION.md has these numbers.
+What is reached is listed in reached.md, also what REFUSALS, those in the whole language, reach, and neither ACCEPTED
+nor FOLDER has. `python3 -m tests.documents.test_reach` writes that file. It has the sizes, too: also of what an answer
+of the program depends on, and of what the calls of the C library do. docs/VERIFICATION.md has these numbers.
 """
 
 import re
@@ -41,7 +41,8 @@ REFUSED_BY = [
     ("pf_whole/src/canonical_texts.rt", "check"),
 ]
 ACCEPTED = [(f"{LOWER}.Items", "HasArguments"), (f"{LOWER}.Stretches", "IsUnnumberedAccepted")]
-# The function whose contract is that of the program, and the crate whose exported functions are the calls of the C library.
+# The function whose contract is that of the program, and the crate whose exported functions are the calls of the C
+# library.
 PROGRAM_STARTS = [("fmtcanon/src/run.rt", "run")]
 LIBRARY = "fmtcanon_c/src"
 EXPORTED = re.compile(r'^pub extern "C" fn (\w+)', re.MULTILINE)
@@ -52,7 +53,9 @@ KNOWN = r"(Rattle\.(std\.specs|\w+\.specs\.declared)|Prim\.Native\.Char)\."
 READERS = ["Rattle.pf_values.specs", "Rattle.pf_text.specs"]
 NAME = r"[^\W\d]\w*"
 # An import: of names of a module, or of a module by another name.
-IMPORT = re.compile(rf"^ *(?:ghost )?(pub )?use ((?:Rattle|Prim)[\w.]+?)(?:\.\{{([^{{}}]*)\}}| as ({NAME}));?$", re.MULTILINE)
+IMPORT = re.compile(
+    rf"^ *(?:ghost )?(pub )?use ((?:Rattle|Prim)[\w.]+?)(?:\.\{{([^{{}}]*)\}}| as ({NAME}));?$", re.MULTILINE
+)
 # What a definition begins with, at the margin or inside a module with parameters.
 HEAD = re.compile(rf"^(?:  )?(?:abbrev |inst )?(?:pub )?(record |data )?({NAME}) *(?:[:({{]|where)")
 WORDS = re.compile(rf"(?<![\w.])({NAME})((?:\.{NAME})*)")
@@ -170,7 +173,9 @@ def reached_from(names):
 def library_starts():
     """The calls of the C library, each with its file."""
     files = [file.relative_to(TOP / "crates") for file in sorted((TOP / "crates" / LIBRARY).glob("*.rt"))]
-    return [(file, name) for file in files for name in EXPORTED.findall((TOP / "crates" / file).read_text(encoding="utf-8"))]
+    return [
+        (file, name) for file in files for name in EXPORTED.findall((TOP / "crates" / file).read_text(encoding="utf-8"))
+    ]
 
 
 def size_of(found):
@@ -228,7 +233,9 @@ def strays(text, folders):
     module = Module()
     rest = imports_of(without_comments(text), module)
     paths = {path for path, _ in module.imports.values()} | set(module.aliases.values())
-    outside = [it for it in paths if not re.match(KNOWN, it + ".") and not it.startswith(tuple(f"{at}." for at in folders))]
+    outside = [
+        it for it in paths if not re.match(KNOWN, it + ".") and not it.startswith(tuple(f"{at}." for at in folders))
+    ]
     return sorted(outside) + re.findall(r"^.*\bRattle\..*$|^ *(?:pub )?use .*$", rest, re.MULTILINE)
 
 
@@ -271,14 +278,22 @@ def of_headlines():
 
 def page():
     """The text of reached.md."""
-    heads = ["The headline and a rejection", "The headline of the whole language, besides", "A rejection in the whole language, besides"]
+    heads = [
+        "The headline and a rejection",
+        "The headline of the whole language, besides",
+        "A rejection in the whole language, besides",
+    ]
     lines = ["# What the headlines depend on", "", "`python3 -m tests.documents.test_reach` writes this file."]
     lines += ["", "| Depends on | Definitions | Lines |", "|---|---|---|"]
     lines += [f"| {name} | {count:,} | {length:,} |" for name, (count, length) in sizes().items()]
     for head, (found, others) in zip(heads, of_headlines()):
         types, constants = of_code(others)
         lines += ["", f"## {head}", "", *by_file(found), ""]
-        lines += [in_line("Types of the code", types), in_line("Constants of the code", constants), in_line("Words of the library", of_library(others))]
+        lines += [
+            in_line("Types of the code", types),
+            in_line("Constants of the code", constants),
+            in_line("Words of the library", of_library(others)),
+        ]
     return "\n".join(lines) + "\n"
 
 
@@ -295,7 +310,9 @@ def test_reach(trials):
     trials.expect(f"definitions that the headline depends on, outside of {FOLDER}", in_words(found - there), [])
     text = (TOP / "docs/DEFINITIONS.md").read_text(encoding="utf-8")
     constants = re.search(r"two constants of the code, `(\w+)`, 4,095, and `(\w+)`, 2\^62", text)
-    trials.expect("constants of the code in docs/DEFINITIONS.md", constants and set(constants.groups()), of_code(others)[1])
+    trials.expect(
+        "constants of the code in docs/DEFINITIONS.md", constants and set(constants.groups()), of_code(others)[1]
+    )
     wanted = lines_there(FOLDER)
     trials.expect("lines in docs/DEFINITIONS.md", counted(text, "The headline and a rejection depend on"), wanted)
     try_whole(trials, others)
@@ -304,7 +321,9 @@ def test_reach(trials):
 def test_strays(trials):
     """What the headlines and refusals depend on is in their folders and in what is known, however it is named."""
     first, whole, refused = ({path for path, _ in found} for found, _ in of_headlines())
-    for paths, folders in [(first, [FOLDER]), (whole, [FOLDER, WHOLE_FOLDER, LOWER]), (refused - whole, [FOLDER, LOWER, *READERS])]:
+    for paths, folders in [
+        (first, [FOLDER]), (whole, [FOLDER, WHOLE_FOLDER, LOWER]), (refused - whole, [FOLDER, LOWER, *READERS])
+    ]:
         for path in sorted(paths):
             trials.expect(f"what {path} names besides", strays(file_of(path).read_text(encoding="utf-8"), folders), [])
 
@@ -323,7 +342,9 @@ def test_planted_strays(trials):
         (f"use {FOLDER}.Spelling.", f"use native.Mathlib.Nat.{{least}}\nuse {FOLDER}.Spelling."),
     ]:
         edited = text.replace(old, new, 1)
-        trials.expect(f"{new}: is in the text, and is seen", (edited != text, strays(edited, [FOLDER]) != []), (True, True))
+        trials.expect(
+            f"{new}: is in the text, and is seen", (edited != text, strays(edited, [FOLDER]) != []), (True, True)
+        )
 
 
 def try_whole(trials, known):
@@ -342,7 +363,10 @@ def try_whole(trials, known):
     page = (TOP / "crates/pf_whole/DEFINITIONS.md").read_text(encoding="utf-8")
     trials.expect("lines in DEFINITIONS.md of pf_whole", counted(page, at), wanted)
     verification = (TOP / "docs/VERIFICATION.md").read_text(encoding="utf-8").replace(",", "")
-    sizes = re.search(r"headlines depend on have (\d+) and (\d+) lines and the second headline uses (\d+) definitions of `pf_posix`", verification)
+    sizes = re.search(
+        r"headlines depend on have (\d+) and (\d+) lines and the second headline uses (\d+) definitions of `pf_posix`",
+        verification,
+    )
     counts = [lines_there(FOLDER)[0], wanted[0], len(lower)]
     trials.expect("lines in docs/VERIFICATION.md", sizes and [int(it) for it in sizes.groups()], counts)
     read = re.search(r"the (\d+) lines of that folder", verification)
@@ -352,9 +376,15 @@ def try_whole(trials, known):
 
 
 def test_sizes(trials):
-    """docs/VERIFICATION.md says how many definitions an answer depends on, in tens, and how many lines they have, in hundreds."""
+    """docs/VERIFICATION.md says how many definitions an answer depends on, in tens, and how many lines they have, in
+    hundreds.
+    """
     text = (TOP / "docs/VERIFICATION.md").read_text(encoding="utf-8").replace(",", "")
-    said = re.search(r"answer of the program depends on some (\d+) definitions with (\d+) lines those of the C calls on (\d+) with (\d+)", text)
+    said = re.search(
+        r"answer of the program depends on some (\d+) definitions with (\d+) lines those of the C calls on (\d+) with "
+        r"(\d+)",
+        text,
+    )
     found = sizes()
     wanted = [
         round(number, -digits)

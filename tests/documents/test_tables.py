@@ -1,7 +1,7 @@
 """Checks tables and numbers of the pages against what they are about: the code, the header, the help, the tables of the
 bench, and those of `make tables`.
 
-What needs the library is in tests/commands/test_page_tables.py.
+What needs the library is in tests/commands/pages/test_page_tables.py.
 """
 
 import re
@@ -87,7 +87,9 @@ def test_commands(trials):
             without = re.search(r"not for (.*)", effect)
             only = re.search(r"whole language; (.*)", effect)
             if without:
-                trials.expect(f"not for {option[0]}", sorted(set(given) - has), sorted(re.findall(r"`(\w+)`", without[1])))
+                trials.expect(
+                    f"not for {option[0]}", sorted(set(given) - has), sorted(re.findall(r"`(\w+)`", without[1]))
+                )
             if only:
                 trials.expect(f"only for {option[0]}", sorted(has), sorted(re.findall(r"`(\w+)`", only[1])))
 
@@ -111,7 +113,9 @@ def test_data_models(trials):
         [f"`{model.lower()}`", f"{bits} bits", ranks[size], ranks[greatest], system]
         for (model, (bits, size, greatest)), system in zip(rows_of_models(), systems)
     ]
-    found = [[row[0].replace(", the default", ""), *row[1:]] for row in table_of(DOCS / "USING.md", "Choose the data model")]
+    found = [
+        [row[0].replace(", the default", ""), *row[1:]] for row in table_of(DOCS / "USING.md", "Choose the data model")
+    ]
     trials.expect("data models in docs/USING.md", found, rows)
     trials.expect("data models in help", all(it in helps()["same"] for it in ["64-bit Unix", "64-bit Windows"]), True)
     kept = {"Int": "none", "Long": "`l`", "LongLong": "`ll`"}
@@ -121,7 +125,9 @@ def test_data_models(trials):
     trials.expect("bits of `l`", modifiers["`l`"][1], f"{longs[0]}; {longs[1]} in `Ilp32`, `Llp64`")
     sizes = ", ".join(f"{kept[values[it][1]]} in `{it}`" for it in MODELS)
     trials.expect("what `z` and `t` are", modifiers["`z`, `t`"][0], sizes)
-    trials.expect("what `j` is", modifiers["`j`"][0], f"{kept[values['Lp64'][2]]} in `Lp64`, otherwise {kept[values['Ilp32'][2]]}")
+    trials.expect(
+        "what `j` is", modifiers["`j`"][0], f"{kept[values['Lp64'][2]]} in `Lp64`, otherwise {kept[values['Ilp32'][2]]}"
+    )
     trials.expect("bits of others", [modifiers[it][1] for it in ["`hh`, `h`", "none", "`ll`"]], ["8, 16", "32", "64"])
 
 
@@ -142,7 +148,9 @@ def test_statuses_of_commands(trials):
     for page in sorted(DOCS.glob("*.md")):
         for sentence in re.findall(r"The status is (\d (?:if|for) [^.]*(?:\.[^.\s][^.]*)*)\.", read(page)):
             numbers = re.findall(r"(?:^|, |and )(\d) (?:if|for)", sentence)
-            trials.expect(f"statuses in {page.name}: {sentence[:60]}", numbers, ["0", "1", "2"] if len(numbers) > 1 else ["1"])
+            trials.expect(
+                f"statuses in {page.name}: {sentence[:60]}", numbers, ["0", "1", "2"] if len(numbers) > 1 else ["1"]
+            )
             found.append(page.name)
     pages = ["EXPLAINING.md", "PORTING.md", "REFACTORING.md", "TRANSLATIONS.md", "TUTORIAL.md"]
     trials.expect("pages with statuses", sorted(set(found)), pages)
@@ -176,20 +184,28 @@ def test_candidates(trials):
 def test_numbers_of_c(trials):
     """docs/C.md has the numbers of the header."""
     page = read(DOCS / "C.md")
-    values = {name: int(number) for name, number in re.findall(r"^#define (FMTCANON_ERROR_\w+) \((-\d+)\)", HEADER, re.MULTILINE)}
+    values = {
+        name: int(number) for name, number in re.findall(
+            r"^#define (FMTCANON_ERROR_\w+) \((-\d+)\)", HEADER, re.MULTILINE
+        )
+    }
     table = {without_ticks(row[0]): row for row in table_of(DOCS / "C.md", "Errors")}
     trials.expect("errors of the table", {it for it in table if it.startswith("FMTCANON")}, set(values))
     last = re.search(r"-1 to -(\d+) \|.*\n\| -(\d+) to -(\d+) \|", page).groups()
     kinds = [max(Kind).value, min(LiteralKind).value, max(LiteralKind).value]
     trials.expect("kinds of errors", [int(it) for it in last], kinds)
-    free = re.search(r"New kinds of refusals are -(\d+) to -99, other errors -(\d+) to -199, and kinds of literals -(\d+) to", page)
+    free = re.search(
+        r"New kinds of refusals are -(\d+) to -99, other errors -(\d+) to -199, and kinds of literals -(\d+) to", page
+    )
     wanted = [max(Kind).value + 1, 1 - min(values.values()), max(LiteralKind).value + 1]
     trials.expect("free numbers", free and [int(it) for it in free.groups()], wanted)
     sets = dict(re.findall(r"FMTCANON_IN_(\w+) = (\d+)", HEADER))
     trials.expect("sets of data models", [sets[it] for it in ("NEITHER", "BOTH", "ALL")], ["0", "3", "7"])
     words = "`FMTCANON_IN_NEITHER` is 0, `FMTCANON_IN_BOTH` is LP64 and ILP32, and `FMTCANON_IN_ALL` is all three"
     trials.expect("their words", words in page, True)
-    trials.expect("kinds of the header", re.search(r"-1 to -(\d+): .*\n?.*-201 to -(\d+)", HEADER).groups(), ("22", "206"))
+    trials.expect(
+        "kinds of the header", re.search(r"-1 to -(\d+): .*\n?.*-201 to -(\d+)", HEADER).groups(), ("22", "206")
+    )
     rooms = re.search(r"STACK_ROOM: usize = (\d+)", read(TOP / "crates/pf_canon/src/short_texts.rt"))[1]
     trials.expect("bytes without an allocation", f"than {rooms} bytes." in HEADER, True)
     words = "65536 times the major one, 256 times the minor one, plus the patch"
@@ -216,6 +232,54 @@ def test_limits(trials):
     trials.expect("pages with limits", len(found) > 4, True)
 
 
+def test_forms(trials):
+    """The numbers of docs/DECISIONS.md and docs/USING.md for what the program can answer are those of the code."""
+    rows = {row[0]: row[1] for row in table_of(DOCS / "DECISIONS.md", "Forms that differ")}
+    outcomes = read(TOP / "crates/fmtcanon/src/outcome.rt").split("pub enum Outcome {\n")[1].split("\n}\n")[0]
+    kinds = len(re.findall(r"^    [A-Z]", outcomes, re.MULTILINE))
+    said = rows["18 kinds of refusal, and 11 outcomes"]
+    trials.expect("refusals and outcomes", said, f"{max(Kind).value} and {kinds}")
+    ints = re.search(r"INTS: \[Candidate; (\d+)\]", read(TOP / "crates/pf_probes/src/candidate_rows.rt"))[1]
+    trials.expect("renderings", rows["`renderings` up to 16"], f"up to {ints}")
+    digits = re.search(r"MAX_DIGITS: usize = (\d+)", read(TOP / "crates/fmtcanon/src/arguments.rt"))[1]
+    said = re.findall(r"A number has 1 to (\d+) digits", read(DOCS / "USING.md"))
+    trials.expect("digits of an argument", said, [digits])
+
+
+def test_normal_forms(trials):
+    """The numbers above 1 in each row of docs/DEFINITIONS.md on a normal form are those of its record."""
+    definitions = read(TOP / "crates/pf_values/specs/meaning/Normal.antt")
+    records = dict(re.findall(r"^pub record (IsNormal\w+) .*\n((?:  .*\n)+)", definitions, re.MULTILINE))
+    rows = [row for row in table_of(DOCS / "DEFINITIONS.md", "Normal") if "`IsNormal" in row[0]]
+    trials.expect("forms with a record", len(rows), len(records))
+    for form, condition in rows:
+        texts = [condition, records[re.search(r"`(IsNormal\w+)`", form)[1]]]
+        numbers = [{it for it in re.findall(r"\b\d+\b", text) if int(it) > 1} for text in texts]
+        trials.expect(f"numbers of {form}", *numbers)
+
+
+def test_see_also(trials):
+    """Each page of ours that a manual page names is there, in that section."""
+    there = {it.name for it in (TOP / "man").iterdir()}
+    for page in sorted((TOP / "man").iterdir()):
+        found = re.findall(r"\b(fmtcanon[-\w]*) \((\d)\)", read(page).replace("\\", ""))
+        named = {f"{name}.{number}" for name, number in found}
+        trials.expect(f"pages that {page.name} names", (named - there, len(named) > 0), (set(), True))
+
+
+def test_counting(trials):
+    """Pages of the program count from 0, and those of the commands from 1; functions with ten calls are named."""
+    pages = [*DOCS.glob("*.md"), *(TOP / "man").iterdir(), TOP / "README.md"]
+    found = {it.name: set(re.findall(r"counted from (\d+)", read(it))) for it in pages}
+    from_0 = {"USING.md", "REFUSALS.md", "fmtcanon.1", "fmtcanon.3", "C.md", "PYTHON.md"}
+    for name, numbers in found.items():
+        trials.expect(f"counted from, in {name}", numbers <= ({"0"} if name in from_0 else {"1"}), True)
+    trials.expect("pages that count", len([it for it in found.values() if it]) > 6, True)
+    words = re.search(r"it names those with (\w+) such calls", read(TOP / "man/fmtcanon-check.1"))[1]
+    least = re.search(r"NAMED_FROM\b.*? = (\d+)", read(TOP / "python/fmtcanon/checker/command.py"))[1]
+    trials.expect("calls of a function that is named", (words, least), ("ten", "10"))
+
+
 def numbers_in(text):
     return re.findall(r"\d[\d,]*\d|\d", text)
 
@@ -233,16 +297,26 @@ def test_results(trials):
     words = section(RESULTS, "Compilers")
     trials.expect("expressions", numbers_in(compared.split("directives")[0]), re.findall(r"533|92|66", words))
     for same, all_of_it in zip(cases[::2], cases[1::2]):
-        trials.expect(f"{same} of {all_of_it}", re.search(rf"{same}(?: cases)? of {all_of_it}\b", compared) is not None, True)
+        trials.expect(
+            f"{same} of {all_of_it}", re.search(rf"{same}(?: cases)? of {all_of_it}\b", compared) is not None, True
+        )
     counts = {}
     for who, _, number in table_of(RESULTS, "Messages with random edits"):
         counts[who] = counts.get(who, 0) + int(number.replace(",", ""))
     edits = text.split("### Compared with `msgfmt -c`\n")[1].split("###")[0]
-    wanted = [f"{it:,}" for it in (sum(counts.values()), *map(counts.get, ("both", "neither", "fmtcanon-po", "msgfmt")))]
+    wanted = [
+        f"{it:,}" for it in (sum(counts.values()), *map(counts.get, ("both", "neither", "fmtcanon-po", "msgfmt")))
+    ]
     trials.expect("messages with random edits", re.findall(r"\d+,\d+", edits), wanted)
     replaced = {row[0]: row[1] for row in table_of(RESULTS, "Formats that are replaced")}
     found = numbers_in(text.split("### Formats that were replaced\n")[1].split("###")[0])
-    names = ["Places with a `%`", "Files", "Of these replaced", "Skipped: keys for translators", "Skipped: parts of expressions"]
+    names = [
+        "Places with a `%`",
+        "Files",
+        "Of these replaced",
+        "Skipped: keys for translators",
+        "Skipped: parts of expressions",
+    ]
     trials.expect("replaced", found[2:7], [replaced[it] for it in names])
     respelled = re.search(r"respells (\d+), .*of the (\d+),", section(RESULTS, "Formats that are replaced"))
     trials.expect("respelled", found[7:9], list(respelled.groups()))
@@ -260,12 +334,48 @@ def test_results(trials):
     flagged = next(row for row in table_of(page, "Translations") if "`%#<PRIu64>`" in row[1])
     more = int(re.search(r"and (\d+) more", flagged[0])[1])
     trials.expect("translations with a flag", re.search(r"(\d+) have a `#`", readme)[1], str(more + 1))
-    trials.expect("translations of the findings", re.findall(r"^The (\d+) are those above", text, re.MULTILINE), [alone])
+    trials.expect(
+        "translations of the findings", re.findall(r"^The (\d+) are those above", text, re.MULTILINE), [alone]
+    )
+
+
+BENCH = TOP / "bench/RESULTS.md"
+
+
+def bases(row, value, ratio):
+    """What `parse_printf_format` took, by one row's ratio: the smallest and the largest number of instructions. What
+    compares two formats is divided by two calls of it.
+    """
+    calls = 2 if row[0].startswith(("`fits", "`same", "`whole_same")) else 1
+    count, quotient = float(row[value].replace(",", "")), float(row[ratio])
+    return (count - 0.5) / (quotient + 0.005) / calls, (count + 0.5) / (quotient - 0.005) / calls
+
+
+def test_ratios(trials):
+    """In the tables of the C library's calls each ratio is one to the same call: what `parse_printf_format` takes."""
+    calls, whole, bounds, prints = (table_of(BENCH, "Calls of the C library", number) for number in range(4))
+    for name, rows, columns in [("all", calls, (1, 2)), ("the 509", calls, (3, 4)), ("whole", whole, (1, 2))]:
+        found = [bases(row, *columns) for row in rows]
+        least, greatest = max(low for low, _ in found), min(high for _, high in found)
+        trials.expect(f"a base of {name}: {least:.1f} to {greatest:.1f}", least <= greatest, True)
+    for row in [*bounds, *prints]:
+        one, other, quotient = (float(it.replace(",", "")) for it in row[1:])
+        divided = other / one if row in bounds else one / other
+        trials.expect(f"the ratio of {row[0]}", abs(divided - quotient) <= 0.006, True)
+    with_all = {}
+    for row in table_of(BENCH, "Shortcuts"):
+        for set_of_texts, count in enumerate(row[2::2]):
+            with_all.setdefault((row[1], set_of_texts), []).append(int(count.replace(",", "")))
+    for (call, _), counts in with_all.items():
+        trials.expect(f"{call} with all shortcuts, in one row and another", max(counts) <= 1.08 * min(counts), True)
+    for row in table_of(DOCS / "PERFORMANCE.md", "Calls per second"):
+        nanoseconds, a_second = (int(it.replace(",", "")) for it in row[1:3])
+        trials.expect(f"{row[0]} from C", abs(a_second * nanoseconds / 1e9 - 1) <= 0.51 / nanoseconds + 0.005, True)
 
 
 def test_proved(trials):
-    """The README has each crate but the callers, with public calls and laws of it; the kit's logic of docs/INSTALL.md; and
-    the minutes and the cores of docs/CONTRIBUTING.md.
+    """The README has each crate but the callers, with public calls and laws of it; the kit's logic of docs/INSTALL.md;
+    and the minutes and the cores of docs/CONTRIBUTING.md.
     """
     readme, rows = read(TOP / "README.md"), table_of(TOP / "README.md", "What is proved")
     crates = [it.name for it in (TOP / "crates").iterdir() if not it.name.startswith("uses")]
@@ -278,10 +388,12 @@ def test_proved(trials):
             function = rf"^pub fn {name.split('::')[-1]}\b"
             trials.expect(f"{name} of {crate}", any(re.search(function, it, re.MULTILINE) for it in texts), True)
     logic = r"logic(?: `rt version` gives as)? `(\w+)`"
-    trials.expect("the kit's logic", re.search(logic, readme)[1], re.search(r"whose " + logic, read(DOCS / "INSTALL.md"))[1])
-    minutes = re.search(r"make test +# (\d+) minutes on four cores", readme)[1]
-    measured = re.search(r"from nothing, on four cores \| (\d+) min", read(DOCS / "CONTRIBUTING.md"))[1]
-    trials.expect("minutes of the gate, in tens", int(minutes), round(int(measured), -1))
+    installed = re.search(r"whose " + logic, read(DOCS / "INSTALL.md"))[1]
+    trials.expect("the kit's logic", re.search(logic, readme)[1], installed)
+    minutes = re.search(r"make test +# (\d+) minutes on two cores, (\d+) on four", readme).groups()
+    measured = re.findall(r"from nothing, on (?:two|four) cores \| (\d+) min", read(DOCS / "CONTRIBUTING.md"))
+    in_fives = [5 * round(int(it) / 5) for it in measured]
+    trials.expect("minutes of the gate, in fives", [int(it) for it in minutes], in_fives)
 
 
 def test_kinds_of_findings(trials):
@@ -310,8 +422,16 @@ def test_types_of_platforms(trials):
         for name in re.findall(r"`(\w+_t)`", names):
             found = []
             for model in ("LP64", "ILP32", "LLP64"):
-                there = {plain.get(it, it) for it in (it.types.get(name) for key, it in by_model.items() if key.startswith(model)) if it}
-                there |= {plain.get(it.wider.get(name), it.wider.get(name)) for key, it in by_model.items() if key.startswith(model) if it.wider.get(name)}
+                there = {
+                    plain.get(it, it) for it in (
+                        it.types.get(name) for key, it in by_model.items() if key.startswith(model)
+                    ) if it
+                }
+                there |= {
+                    plain.get(it.wider.get(name), it.wider.get(name)) for key, it in by_model.items() if key.startswith(
+                        model
+                    ) if it.wider.get(name)
+                }
                 found.append(there)
             shown = [set(re.findall(r"`([a-z ]+)`", it)) for it in cells[:3]]
             trials.expect(f"{name} on each platform", shown, found)
@@ -322,9 +442,15 @@ def test_figures(trials):
     page = read(DOCS / "PERFORMANCE.md")
     shapes, whole = formats.shapes(), formats.whole_shapes()
     mean = f"{sum(map(len, shapes)) / len(shapes):.1f}"
-    trials.expect("formats", re.search(r"over ([\d,]+) formats of real programs, ([\d.]+) bytes", page).groups(), (f"{len(shapes):,}", mean))
+    trials.expect(
+        "formats",
+        re.search(r"over ([\d,]+) formats of real programs, ([\d.]+) bytes", page).groups(),
+        (f"{len(shapes):,}", mean),
+    )
     every = section(charts.RESULTS, "Calls of the C library")
-    trials.expect("formats of the whole language", re.search(r"over ([\d,]+) formats with one", every)[1], f"{len(whole):,}")
+    trials.expect(
+        "formats of the whole language", re.search(r"over ([\d,]+) formats with one", every)[1], f"{len(whole):,}"
+    )
     first, second, _, last = tables(every)
     for what, words, ratios in [
         ("the 509", r"the ratios are ([\d.]+) to ([\d.]+)", [row[4] for row in first[1:]]),

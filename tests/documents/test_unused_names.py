@@ -35,7 +35,8 @@ FLOORS = (
 )
 PLANTED_PYTHON = {
     "fmtcanon/models.py": "from .kinds import diff\nfrom . import frame\nclass Twice: pass\n",
-    "fmtcanon/source/places.py": "import re\nfrom ..fitting.unit import lost\nfrom .tokens import NAME\nfrom .. import same\n",
+    "fmtcanon/source/places.py": "import re\nfrom ..fitting.unit import lost\nfrom .tokens import NAME\n"
+    "from .. import same\n",
     "fmtcanon/diff/trees.py": "from fmtcanon.po import lost\nfrom ..frame.output import put\nclass Twice: pass\n",
 }
 # Files with unused names, which are `lost` or in which `lost` is a part of the name.
@@ -191,7 +192,9 @@ def test_floors(trials):
     """Imports of the Python module go down, and no two of its classes have one name."""
     wanted = [("models.py", "frame"), ("places.py", "fitting"), ("trees.py", "po")]
     found, twice = upwards(PLANTED_PYTHON)
-    trials.expect("imports that are planted", ([(Path(file).name, it) for file, it in found], twice), (wanted, ["Twice"]))
+    trials.expect(
+        "imports that are planted", ([(Path(file).name, it) for file, it in found], twice), (wanted, ["Twice"])
+    )
     files = sorted(TOP.glob("python/fmtcanon/**/*.py"))
     trials.expect("floors", upwards({str(it): it.read_text(encoding="utf-8") for it in files}), ([], []))
 

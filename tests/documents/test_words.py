@@ -1,8 +1,8 @@
 """Checks the words of what people read: phrases that this project doesn't use, and the length of each page.
 
-It reads the documents, the manual pages, the header, the examples, the help of the program, the comments of the crates' sources,
-definitions and proofs, the comments, docstrings, texts and words of the Python module, the page and the comments of its
-sources, and the comments and docstrings of the tests.
+It reads the documents, the manual pages, the header, the examples, the help of the program, the comments of the crates'
+sources, definitions and proofs, the comments, docstrings, texts and words of the Python module, the page and the
+comments of its sources, and the comments and docstrings of the tests.
 """
 
 import ast
@@ -13,7 +13,8 @@ import tokenize
 from tests.frame.cases import tests_of
 from tests.frame.harness import TOP
 
-# Phrases that a reader would stumble over, or read in another sense: what is written for them, and a regular expression.
+# Phrases that a reader would stumble over, or read in another sense: what is written for them, and a regular
+# expression.
 PHRASES = {
     "NUL": r"zero bytes?|null characters?|(?:by|with|after) a zero(?= after|[.,;]|$)",
     "allocation": r"growths?(?= (?:is|was|are|were) )|(?:a|one|no|each|all) growths?",
@@ -23,8 +24,10 @@ PHRASES = {
     "argument, option": r"words? of (?:a|the) command line|command line's words|as a word|wrong words",
     "mutant": r"wrong bod(?:y|ies)",
     "is rejected": r"(?:is|are|was) told(?! apart)|lines? of (?:the|its|a) refusals?",
-    "rejected": r"(?:texts?|formats?|bytes?|specifications?|directives?|items?) (?:that )?(?:is|are|was|were|isn't) refused"
-    r"|refused (?:texts?|formats?|bytes?)|(?:refuses?|refusing) (?:a|an|the|no|each|some) (?:\w+ )?(?:texts?|formats?|bytes?)",
+    "rejected": r"(?:texts?|formats?|bytes?|specifications?|directives?|items?) (?:that )?(?:is|are|was|were|isn't) "
+    r"refused"
+    r"|refused (?:texts?|formats?|bytes?)|(?:refuses?|refusing) (?:a|an|the|no|each|some) (?:\w+ "
+    r")?(?:texts?|formats?|bytes?)",
     "inline": r"in line(?= with each|[.,;]|$)|inlined from",
     "%": r"in a hundred",
     "slow, fast": r"dear|dearer|dearest|cheap|cheaper|cheapest|cheaply",
@@ -45,19 +48,24 @@ PHRASES = {
     "not a": r"(?<!there )(?<!which )(?:is|are|was|were) no(?! (?:longer|shorter|larger|smaller|more|less|later|higher|"
     r"lower|greater|way|need))",
     "whose, one of them": r"of which",
-    "returns": r"(?:(?<!that )it|which|that|call|calls|stream) answers?|answered (?:by|an|with)|answers (?:only|an|so|as)\b",
+    "returns": r"(?:(?<!that )it|which|that|call|calls|stream) answers?|answered (?:by|an|with)|answers "
+    r"(?:only|an|so|as)\b",
     "if and only if": r"exactly if",
-    "otherwise": r"(?<!nothing )(?<!anything )(?<!something )(?<!everything )(?<!somebody )(?<!what )(?<!or )(?<!one )else"
+    "otherwise": r"(?<!nothing )(?<!anything )(?<!something )(?<!everything )(?<!somebody )(?<!what )(?<!or )(?<!one "
+    r")else"
     r"(?! if)",
 }
 # The same for what people read first: pages, manual pages, the header, help texts and examples.
 FIRST = {
     "different, wrong, other than": r"(?:is|are|be|has|have|take|takes|with|whose type is) another"
-    r"(?= (?:type|kind|size|sign|number|order|conversion|encoding)s?\b|[.,;:)]| elsewhere)|of another kind|alone is another",
+    r"(?= (?:type|kind|size|sign|number|order|conversion|encoding)s?\b|[.,;:)]| elsewhere)|of another kind|alone is "
+    r"another",
     "skipped": r"(?:places?|files?|formats?|calls?) (?:is|are|was|were) left(?! (?:out|over))|(?:is|was) left as it is",
     "literal": r"places? (?:is|are|was|were) (?:not )?(?:replaced|skipped|verified|judged|reported)|each place",
 }
-READ_FIRST = re.compile(r"[^/]*\.md|docs/.*|man/.*|include/.*|tests/usage\.txt|examples/.*|python/fmtcanon/\w+/options\.py|web/.*html")
+READ_FIRST = re.compile(
+    r"[^/]*\.md|docs/.*|man/.*|include/.*|tests/usage\.txt|examples/.*|python/fmtcanon/\w+/options\.py|web/.*html"
+)
 # Files whose docstrings are part of the mutants' keys: an edit would make all of them be tried again.
 KEPT = ["tests/mutants/rattle_functions.py"]
 # What may have a docstring.

@@ -89,7 +89,8 @@ def main(folders):
     for key, text in rows:
         print(f"| {text} | {total[key]:,} |")
     print(
-        f"| Of those that are no keys for translators, % | {100 * total['replaced'] // max(total['accepted'] - keys, 1)} |"
+        f"| Of those that are no keys for translators, % | "
+        f"{100 * total['replaced'] // max(total['accepted'] - keys, 1)} |"
     )
     for (_, why), count in sorted(
         ((key, n) for key, n in total.items() if isinstance(key, tuple)), key=lambda one: -one[1]

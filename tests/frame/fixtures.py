@@ -6,6 +6,7 @@ import shutil
 import subprocess
 import sys
 import tempfile
+import unittest
 from functools import lru_cache
 from pathlib import Path
 
@@ -46,6 +47,22 @@ def module_over(folder):
 def module(folder):
     """The Python module, over the library."""
     return module_over(folder)
+
+
+def case():
+    """The assertions of unittest."""
+    yield from prepared(unittest.TestCase)
+
+
+def prepared(kind):
+    """A test case of a kind, with what it sets up for a test, and without tests of its own."""
+    one = kind()
+    one.setUp()
+    try:
+        yield one
+    finally:
+        one.tearDown()
+        one.doCleanups()
 
 
 def work():

@@ -33,10 +33,18 @@ WRAPPER = """\
 #!/bin/sh
 exec '{emulator}' -0 "$0" -L '{root}' '{root}/usr/bin/python3' "$@"
 """
-# Tests of the module: those that call the library, measure no time, and start few processes, which an emulator takes long for.
-TESTS = ["check", "diff_findings", "explain", "fmtcanon", "surroundings", "without_program"]
+# Tests of the module: those that call the library, measure no time, and start few processes, which an emulator takes
+# long for.
+TESTS = [
+    "checker.test_check",
+    "diff.test_diff_findings",
+    "explain.test_explain",
+    "module.test_fmtcanon",
+    "module.test_surroundings",
+    "shared.test_without_program",
+]
 # How many of them need the program.
-SKIPPED = 3
+SKIPPED = 2
 
 
 def fetched(work):
@@ -72,15 +80,19 @@ def emulated_python(work, trials):
 
 def environment_of(**names):
     """An environment without the program and without the system's modules."""
-    without = {it: value for it, value in os.environ.items() if it not in ("FMTCANON_PROGRAM", "FMTCANON_LIBRARY", "PYTHONPATH")}
+    without = {
+        it: value for it, value in os.environ.items() if it not in (
+            "FMTCANON_PROGRAM", "FMTCANON_LIBRARY", "PYTHONPATH"
+        )
+    }
     return {**without, "PYTHONDONTWRITEBYTECODE": "1", **names}
 
 
 def try_unit_tests(python, cross, trials):
     """The tests of the module that call the library, without the program."""
-    words = [python, "-m", "unittest", *(f"tests.test_{name}" for name in TESTS)]
+    words = [python, "-m", "unittest", *(f"tests.commands.{name}" for name in TESTS)]
     environment = environment_of(FMTCANON_LIBRARY=str(cross / SONAME))
-    status, lines = lines_of(words, env=environment, cwd=TOP / "python")
+    status, lines = lines_of(words, env=environment, cwd=TOP)
     if status != 0:
         print(lines)
     trials.expect("the tests of the Python module on AArch64", status, 0)

@@ -1,5 +1,5 @@
-"""Tries the C library for AArch64 in an emulator: against its header, and against the library for x86-64; the tests of the
-Python module over it (emulated_python.py), and the packages (aarch64_packages.py).
+"""Tries the C library for AArch64 in an emulator: against its header, and against the library for x86-64; the tests of
+the Python module over it (emulated_python.py), and the packages (aarch64_packages.py).
 
 It needs the library of `make library TARGET=aarch64`, and Debian's gcc-aarch64-linux-gnu, libc6-dev-arm64-cross and
 qemu-user.
@@ -38,7 +38,9 @@ def archive(cross):
 def test_programs(archive, trials, work):
     """The programs of tests/library find nothing wrong, those on a small stack among them."""
     for program, options, line in PROGRAMS:
-        trials.expect(f"{program}.c", compile_with(COMPILER, SOURCES / f"{program}.c", work / program, archive, *options), (0, ""))
+        trials.expect(
+            f"{program}.c", compile_with(COMPILER, SOURCES / f"{program}.c", work / program, archive, *options), (0, "")
+        )
         trials.expect(program, lines_of([*EMULATOR, work / program]), (0, f"{line}\n"))
 
 
@@ -62,7 +64,9 @@ def test_answers(folder, cross, trials, work):
     wanted = answers_of(["gcc", "-std=c99"], [], work / "own", folder / "libfmtcanon.a")
     trials.expect("whether there are answers", wanted[0] == 0 and wanted[1].count("\n") > 10_000, True)
     archive = answers_of(COMPILER, EMULATOR, work / "archive", cross / "libfmtcanon.a")
-    shared = answers_of(COMPILER, [*EMULATOR, "-E", f"LD_LIBRARY_PATH={cross}"], work / "shared", cross / "libfmtcanon.so")
+    shared = answers_of(
+        COMPILER, [*EMULATOR, "-E", f"LD_LIBRARY_PATH={cross}"], work / "shared", cross / "libfmtcanon.so"
+    )
     for name, found in [("archive", archive), ("shared library", shared)]:
         trials.expect(f"whether the {name} answers as x86-64", found == wanted, True)
     print(f"{wanted[1].count(chr(10)):,} lines of answers compared")
@@ -82,7 +86,9 @@ def test_exports(cross, trials):
     wanted = sorted(name for name, _ in header_calls())
     for words in [["-D", cross / "libfmtcanon.so"], ["-g", cross / "libfmtcanon.a"]]:
         said = lines_of([f"{TOOLS}nm", "--defined-only", *words])[1]
-        trials.expect(f"names of {words[1].name}", sorted(re.findall(r"^[0-9a-f]+ \w (\S+)$", said, re.MULTILINE)), wanted)
+        trials.expect(
+            f"names of {words[1].name}", sorted(re.findall(r"^[0-9a-f]+ \w (\S+)$", said, re.MULTILINE)), wanted
+        )
     headers = lines_of([f"{TOOLS}objdump", "-p", cross / "libfmtcanon.so"])[1]
     trials.expect("the name that programs ask for", re.findall(r"SONAME\s+(\S+)", headers), [SONAME])
     trials.expect("libraries that it wants", re.findall(r"NEEDED\s+(\S+)", headers), ["libc.so.6"])

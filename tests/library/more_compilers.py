@@ -41,7 +41,8 @@ def test_compilers(folder, tools, module, trials, work):
         trials.expect(f"{compiler}: the answers are those of the Python module", lines == wanted, True)
     source = work / "header.cpp"
     source.write_text(
-        '#include "fmtcanon.h"\nint main() { fmtcanon_error e; return (int)fmtcanon_is_canonical(FMTCANON_ILP32, "%ld", 3, &e) - 1; }\n'
+        '#include "fmtcanon.h"\nint main() { fmtcanon_error e; return (int)fmtcanon_is_canonical(FMTCANON_ILP32, '
+        '"%ld", 3, &e) - 1; }\n'
     )
     for compiler, package in [("g++", "g++"), ("clang++", "clang")]:
         if tools.has(compiler, package):
@@ -62,7 +63,9 @@ def test_other_compilers(folder, tools, trials, work):
             try_standards(compiler, standards, folder, trials, work)
     if tools.has("clang++", "clang"):
         words = ["clang++", "-std=c++11", "-Wzero-as-null-pointer-constant", "-Wold-style-cast"]
-        trials.expect("the header has no NULL that C++ warns of", compiled(words, f"{HEAD}int unused;\n", work), (0, []))
+        trials.expect(
+            "the header has no NULL that C++ warns of", compiled(words, f"{HEAD}int unused;\n", work), (0, [])
+        )
     for words, package, model in OTHER_MACHINES:
         if tools.has(words[0], package):
             name = " ".join(words)
@@ -115,7 +118,10 @@ def test_locale(program, folder, trials):
             "FMTCANON_PROGRAM": program,
             "FMTCANON_LIBRARY": str(folder / SONAME),
         }
-        script = "import sys, fmtcanon; print(sys.getfilesystemencoding(), fmtcanon.format('\\xe9%s', '\\xe9'), fmtcanon.show('\\xe9'))"
+        script = (
+            "import sys, fmtcanon; print(sys.getfilesystemencoding(), fmtcanon.format('\\xe9%s', '\\xe9'), "
+            "fmtcanon.show('\\xe9'))"
+        )
         wanted = "iso8859-1 b'\\xc3\\xa9\\xc3\\xa9' [Text(length=2)]\n"
         trials.expect(
             "format and show in ISO-8859-1",

@@ -13,7 +13,9 @@ from tests.library.test_library import lines_of
 
 MODIFIERS = ["", "hh", "h", "l", "ll", "j", "z", "t", "L"]
 CONVERSIONS = "diouxXbcsfFeEgGaApnCS"
-OTHERS = ["", "%%", "%", "%5%", "%y", "%m", "%*d", "%.*s", "%*.*f", "%-5d", "%+s", "%1$d", "%#d", "%0s", "%.3c", "%5000d"]
+OTHERS = [
+    "", "%%", "%", "%5%", "%y", "%m", "%*d", "%.*s", "%*.*f", "%-5d", "%+s", "%1$d", "%#d", "%0s", "%.3c", "%5000d"
+]
 # The reasons, as docs/C.md names them: a pattern, and what takes its place in a format without the reason.
 REASONS = [
     ("numbered arguments", r"%(\d)\$", "%"),

@@ -1,4 +1,5 @@
-"""Tries more sentences of fmtcanon-explain: those of 50,000 directives at random, and of all directives of some parts."""
+"""Tries more sentences of fmtcanon-explain: those of 50,000 directives at random, and of all directives of some parts.
+"""
 
 import itertools
 

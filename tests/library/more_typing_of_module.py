@@ -38,10 +38,6 @@ offset: Optional[int] = fmtcanon.source_offset('"%d"', 1)
 literal: str = fmtcanon.encode_literal("a")
 inside: bytes = fmtcanon.decode_literal('"a"')
 number: Tuple[int, int, int] = fmtcanon.version()
-with fmtcanon.Session("same", model=fmtcanon.Model.ILP32, literal=True, timeout=1.5) as session:
-    reply: fmtcanon.Reply = session.ask("%d", "%i")
-    status: int = reply.status
-asked: bytes = fmtcanon.Session("canon", model="ilp32", whole=status == 0).ask(b"%i%f").text
 try:
     fmtcanon.check("%")
 except fmtcanon.Refused as refusal:
@@ -49,13 +45,13 @@ except fmtcanon.Refused as refusal:
 """
 FAULTS = [
     "fmtcanon.canonical(5)",
-    'fmtcanon.Session("canon", model=1.5)',
+    'fmtcanon.canonical("%d", model=1.5)',
     'x: int = fmtcanon.canonical("%d")',
     'fmtcanon.format("%f", 1.5)',
     'fmtcanon.printed("%f", [1.5])',
     'fmtcanon.printed("%d", 1)',
-    'fmtcanon.Session("canon", whole="yes")',
-    'fmtcanon.Session("canon", False, True)',
+    'fmtcanon.canonical("%d", whole="yes")',
+    'fmtcanon.canonical("%d", False, True)',
     'y: str = fmtcanon.decode_literal("a")',
     'z: int = fmtcanon.bounds("%s").greatest',
     'fmtcanon.fits("%d", "%d", fewer="yes")',

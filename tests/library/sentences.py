@@ -1,7 +1,7 @@
 """Reads the sentences of fmtcanon-explain: what a directive prints by its sentence alone.
 
-The reader knows phrases of English, and nothing of formats. So where a sentence says too little, or something wrong, other
-bytes are expected than a C library prints.
+The reader knows phrases of English, and nothing of formats. So where a sentence says too little, or something wrong,
+other bytes are expected than a C library prints.
 """
 
 import math
@@ -11,7 +11,9 @@ import re
 TYPES = {"signed char": (8, True), "unsigned char": (8, False), "short": (16, True), "unsigned short": (16, False)}
 TYPES.update({"int": (32, True), "unsigned int": (32, False), "long": (64, True), "unsigned long": (64, False)})
 TYPES.update({"long long": (64, True), "unsigned long long": (64, False)})
-BASES = {"decimal": "d", "octal": "o", "binary": "b", "hexadecimal with `a` to `f`": "x", "hexadecimal with `A` to `F`": "X"}
+BASES = {
+    "decimal": "d", "octal": "o", "binary": "b", "hexadecimal with `a` to `f`": "x", "hexadecimal with `A` to `F`": "X"
+}
 
 # Phrases about the numbers of arguments.
 AS_MANY = re.compile(
@@ -23,12 +25,17 @@ AT_MOST = re.compile(
     r" if it is negative\)"
 )
 FIELD = re.compile(
-    r"(?P<how>left-justified in|right-justified in|padded with zeros to) at least as many bytes as argument (?P<at>\d+) says"
-    r"(?P<spaces> \(infinity and NaN with spaces\))?(?: \(without its sign\)| \(left-justified if it is negative(?:, otherwise"
-    r" (?P<zeros>padded with zeros) if argument (?P<precision>\d+) is negative)?\)|, or left-justified with spaces if it is"
+    r"(?P<how>left-justified in|right-justified in|padded with zeros to) at least as many bytes as argument "
+    r"(?P<at>\d+) says"
+    r"(?P<spaces> \(infinity and NaN with spaces\))?(?: \(without its sign\)| \(left-justified if it is negative(?:, "
+    r"otherwise"
+    r" (?P<zeros>padded with zeros) if argument (?P<precision>\d+) is negative)?\)|, or left-justified with spaces if "
+    r"it is"
     r" negative)$"
 )
-ZEROS = re.compile(r"right-justified in (at least \d+ bytes) \(padded with zeros if argument (?P<precision>\d+) is negative\)$")
+ZEROS = re.compile(
+    r"right-justified in (at least \d+ bytes) \(padded with zeros if argument (?P<precision>\d+) is negative\)$"
+)
 # What the phrases of a sentence are, in their order, once they have numbers.
 PHRASES = [
     r"(?:the value as an? (?P<converted>[a-z ]+), in )?(?P<base>" + "|".join(BASES) + r")(?! and)",
@@ -72,7 +79,9 @@ class Unread(Exception):
 
 
 def with_numbers(sentence, arguments):
-    """A sentence in which numbers replace what it says of them; `arguments` are those of width and precision, by number."""
+    """A sentence in which numbers replace what it says of them; `arguments` are those of width and precision, by
+    number.
+    """
 
     def as_many(found):
         number = arguments[int(found["at"])]
@@ -112,7 +121,9 @@ def read(sentence, arguments):
 
 
 def printed_by(found, type, value):
-    """What is printed for a value of a type by the phrases of a sentence; a pointer's is its text, by the phrase on flags."""
+    """What is printed for a value of a type by the phrases of a sentence; a pointer's is its text, by the phrase on
+    flags.
+    """
     if found["nothing"]:
         return b""
     if found["pointer"]:

@@ -121,7 +121,9 @@ def test_overflow(module, trials, work):
     """The numbers are those of gcc's warnings, where it gives both."""
     rows = list(asked())
     found = gcc_numbers(rows, work)
-    trials.expect(f"gcc gives numbers for {len(found)} of {len(rows)} directives", len(found) * 10 > len(rows) * 9, True)
+    trials.expect(
+        f"gcc gives numbers for {len(found)} of {len(rows)} directives", len(found) * 10 > len(rows) * 9, True
+    )
     for at, numbers in found.items():
         trials.expect(f"gcc's numbers of {rows[at]}", tuple(module.bounds(rows[at][1])), numbers)
 

@@ -115,8 +115,12 @@ def test_sizes(compiler, trials, work):
 
 
 def test_code(trials):
-    """The code of the header is one function: two lengths, a call of the library that decides, and a choice of pointers."""
-    [(name, body)] = re.findall(r"^static inline .*?(\w+)\([^)]*\)\n\{\n(.*?)^\}", header_text(), re.MULTILINE | re.DOTALL)
+    """The code of the header is one function: two lengths, a call of the library that decides, and a choice of
+    pointers.
+    """
+    [(name, body)] = re.findall(
+        r"^static inline .*?(\w+)\([^)]*\)\n\{\n(.*?)^\}", header_text(), re.MULTILINE | re.DOTALL
+    )
     trials.expect("the inline function", name, "fmtcanon_fmtcheck")
     calls = re.findall(r"(\w+)\(", body)
     trials.expect("calls of its body", sorted(set(calls) - {"if"}), ["fmtcanon_fits_fewer", "strlen"])

@@ -143,7 +143,9 @@ def test_header(trials):
         ("fmtcanon_argument", "arguments", "CArgument"),
     ]
     for name, source, struct in structs:
-        fields = re.search(rf"^(?:typedef )?struct {name} \{{(.*?)\}}", header_text(), re.DOTALL | re.MULTILINE).group(1)
+        fields = re.search(rf"^(?:typedef )?struct {name} \{{(.*?)\}}", header_text(), re.DOTALL | re.MULTILINE).group(
+            1
+        )
         text = (SOURCES / f"{source}.rt").read_text(encoding="utf-8")
         code = re.search(rf"#\[repr\(C\)\][^{{]*struct {struct}(?:<'a>)? \{{(.*?)\n\}}", text, flags=re.DOTALL).group(1)
         wanted = [one for field, kind in re.findall(r"pub (\w+): ([^,]+),", code) for one in c_fields(field, kind)]
@@ -185,7 +187,9 @@ def try_header_laws(errors, trials):
 
 
 def lines_of(words, **options):
-    done = subprocess.run(words, stdout=subprocess.PIPE, stderr=subprocess.STDOUT, timeout=3 * TIMEOUT, check=False, **options)
+    done = subprocess.run(
+        words, stdout=subprocess.PIPE, stderr=subprocess.STDOUT, timeout=3 * TIMEOUT, check=False, **options
+    )
     return done.returncode, done.stdout.decode(errors="replace")
 
 
@@ -339,7 +343,8 @@ def same_lines(module, one, other, model, whole=False):
 
 
 def test_program_rows(module, trials):
-    """The rows against which the program is checked hold for the library, too: of each data model, of both and of all."""
+    """The rows against which the program is checked hold for the library, too: of each data model, of both and of all.
+    """
     found, commands = {"lp64": 0, "ilp32": 0, "llp64": 0, "both": 0, "all": 0}, {}
     for line in ROWS.read_text(encoding="utf-8").splitlines():
         row = json.loads(line)
@@ -452,22 +457,6 @@ def test_documents(prefix, work, trials):
         if language == "c":
             found = any(" ".join(block.split()) in it for it in sources)
             trials.expect(f"an example has this block of docs/C.md: {block[:60]}", found, True)
-
-
-def test_unit_tests(program, folder, trials):
-    """The tests of the Python module, and the examples of its text."""
-    environment = {
-        **os.environ,
-        "FMTCANON_PROGRAM": program,
-        "FMTCANON_LIBRARY": str(folder / SONAME),
-        "PYTHONDONTWRITEBYTECODE": "1",
-    }
-    words = [sys.executable, "-m", "unittest", "discover", "-s", "tests", "-t", "."]
-    status, lines = lines_of(words, env=environment, cwd=TOP / "python")
-    if status != 0:
-        print(lines)
-    trials.expect("the tests of the Python module", status, 0)
-    trials.expect("tests of the Python module that are skipped", re.findall(r"skipped=\d+", lines), [])
 
 
 def test_enums(module, trials):

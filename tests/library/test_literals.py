@@ -171,7 +171,9 @@ def test_encoded(module, compiler, trials, work):
 
 
 def test_lengths(module, trials):
-    """No bytes are longer than their source, and no literal than four times its text and two quotes, as the header says."""
+    """No bytes are longer than their source, and no literal than four times its text and two quotes, as the header
+    says.
+    """
     longer = [it for it in sources() if len(module.decode_literal(it)) > len(it)]
     trials.expect("sources with more bytes", longer, [])
     every = [*texts(), b"\x01" * 50]

@@ -1,5 +1,5 @@
-"""Tries the sentences of fmtcanon-explain: directives that are not the same have different ones, and by its sentence alone
-each prints what the GNU C library prints; so does one without a part that is said to have no effect.
+"""Tries the sentences of fmtcanon-explain: directives that are not the same have different ones, and by its sentence
+alone each prints what the GNU C library prints; so does one without a part that is said to have no effect.
 """
 
 import contextlib
@@ -33,7 +33,11 @@ PLANTED = [
     ("%.3u", "at least {precision} digits", "at least {precision}0 digits"),
     ("%.*u", "(1 if it is negative)", "(2 if it is negative)"),
     ("%*d", "(left-justified if it is negative)", "(without its sign)"),
-    ("%f", "{precision} digits after the decimal point", "up to {precision} significant digits, in the style of `f` or `e`"),
+    (
+        "%f",
+        "{precision} digits after the decimal point",
+        "up to {precision} significant digits, in the style of `f` or `e`",
+    ),
     ("%#g", "{precision} significant digits", "up to {precision} significant digits"),
     ("%+i", "always with a sign", "with a space where there is no sign"),
     ("%.3s", "at most {precision} bytes of it", "no bytes of it"),
@@ -92,7 +96,9 @@ class Sentences:
         return CHARACTERS if one.conversion in "cC" else INTEGERS
 
     def untrue(self, part):
-        """Yields what the library prints for a directive, if that is not by its sentence, or not without a needless part."""
+        """Yields what the library prints for a directive, if that is not by its sentence, or not without a needless
+        part.
+        """
         one = part.specification
         stars = [it + 1 for it in (one.found.width_argument, one.found.precision_argument) if it is not None]
         shorter = [one.alone(it) for it in self.module.Part if it & one.found.needless]
@@ -162,8 +168,8 @@ def test_printed(module, trials):
 
 
 def test_effects(module, trials):
-    """What has no effect has none in any data model: each part by itself, and those that are left out of the sentence; and
-    there are words on each.
+    """What has no effect has none in any data model: each part by itself, and those that are left out of the sentence;
+    and there are words on each.
     """
     found, count = [], 0
     for part, _ in itertools.islice(Sentences(module).parts(drawn(4)), 1_500):

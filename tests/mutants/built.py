@@ -1,8 +1,9 @@
 """Checks and builds of a crate over libraries that are proved, with the kit's `rattle`, as `rt ci` calls it.
 
-`rt ci` proves each library from nothing and leaves it in `crates/NAME/out/rlib`; nothing else of its proofs stays. `--mark`
-then writes checksums of these libraries, and of the sources they were made of, to `out/proved.txt`. A run that
-uses a library without its mark ends with a line that says so. A check of some functions needs no proof of the rest of their crate.
+`rt ci` proves each library from nothing and leaves it in `crates/NAME/out/rlib`; nothing else of its proofs stays.
+`--mark` then writes checksums of these libraries, and of the sources they were made of, to `out/proved.txt`. A run that
+uses a library without its mark ends with a line that says so. A check of some functions needs no proof of the rest of
+their crate.
 
 Usage: python3 -m tests.mutants.built --mark            marks the libraries that `rt ci` has just left
        python3 -m tests.mutants.built ARCHIVE WORD..    builds the C library over them, with more words for rattle
@@ -73,7 +74,9 @@ class Built:
         file.write_text("".join(f"{name} {mark}\n" for name, mark in self.marks.items()), encoding="utf-8")
 
     def library(self, name):
-        """Returns a library that is proved, and ends the run if it isn't. `rt` adds a stamp to those of its other commands."""
+        """Returns a library that is proved, and ends the run if it isn't. `rt` adds a stamp to those of its other
+        commands.
+        """
         if not self.is_proved(name) or self.of_ci and (self.place(name).parent / "stamp").exists():
             raise SystemExit(f"{self.place(name)} isn't what rt ci proved of these sources: make gate")
         return self.place(name)
@@ -95,7 +98,9 @@ class Built:
         words = ["--crate-name", name, root, "--links", f"{name}="]
         words += [word for it in direct for word in ("--extern", f"{it}={given[it]}")]
         words += [word for it in {rlibs, *(it.parent for it in own.values())} for word in ("-L", f"dependency={it}")]
-        words += ["--antt-project", f"{self.kit}/rattle/logic/antt-project.json", "--logic-built", f"{self.kit}/logic_built"]
+        words += [
+            "--antt-project", f"{self.kit}/rattle/logic/antt-project.json", "--logic-built", f"{self.kit}/logic_built"
+        ]
         return words + (["--crate-type", "staticlib"] if self.crates.is_static(name) else [])
 
     def copy(self, name):
@@ -109,7 +114,15 @@ class Built:
 
     def check(self, folder, *words):
         """Returns what a check says of a copy of a crate, over what its earlier checks kept."""
-        command = [self.kit / "bin/rattle", "check", *self.words(folder.name), "--incremental", "out/incremental", "--jobs", "1"]
+        command = [
+            self.kit / "bin/rattle",
+            "check",
+            *self.words(folder.name),
+            "--incremental",
+            "out/incremental",
+            "--jobs",
+            "1",
+        ]
         how = {"stdin": subprocess.DEVNULL, "stdout": subprocess.PIPE, "stderr": subprocess.STDOUT, "errors": "replace"}
         return subprocess.run([*command, *words], cwd=folder, check=False, **how).stdout
 

@@ -1,9 +1,10 @@
 """Lists the clauses of public functions that no recorded mutant breaks.
 
 A clause is broken by a mutant if the goals that refused it (`crates/NAME/refused.txt`) have the clause's name, or, of a
-clause without one, if they are of the function. Only current lines count. Where a mutant has no twin, such a goal may be
-true, and only no longer be proved by the search. public_functions.py says which functions are public. A method of a trait has
-the clauses that the trait declares for it, or if the trait is std's, those of its ghost members, as one without a name.
+clause without one, if they are of the function. Only current lines count. Where a mutant has no twin, such a goal may
+be true, and only no longer be proved by the search. public_functions.py says which functions are public. A method of a
+trait has the clauses that the trait declares for it, or if the trait is std's, those of its ghost members, as one
+without a name.
 """
 
 import re
@@ -91,8 +92,8 @@ def is_broken(path, clause, refused):
 
 
 def unbroken(mutants):
-    """Returns how many clauses a mutant with a current line breaks, and which none does, without the exceptions; and the
-    exceptions that one does.
+    """Returns how many clauses a mutant with a current line breaks, and which none does, without the exceptions; and
+    the exceptions that one does.
     """
     crates, count, missing = mutants.crates, 0, []
     of_traits = clauses_of_traits(crates)

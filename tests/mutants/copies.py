@@ -28,7 +28,8 @@ def name_of(function, mark):
 
 
 def block_of_type(function):
-    """Returns the head of a block of the type of a trait's method: `<R: Read> Read for Cut<R>` is `<R: Read> Cut<R>`."""
+    """Returns the head of a block of the type of a trait's method: `<R: Read> Read for Cut<R>` is `<R: Read> Cut<R>`.
+    """
     _, rest = rattle_functions.split_parameters(function.block)
     return f"{function.block[: len(function.block) - len(rest)]} {type_with_trait(function)}".strip()
 
@@ -54,7 +55,10 @@ def with_copy(text, function, mark, body):
     end = rattle_functions.group_end(rattle_functions.blanked(text), text.index("{", begin))
     if has_own_contract(function):
         uses = "".join(re.findall(r"^ *ghost use [^;]*;\n", text[begin:end], re.MULTILINE))
-        return f"{text[:end]}\n\n{impl(block_of_type(function))} {{\n{uses}\n    {head}\n    {{ {body} }}\n}}\n{text[end:]}"
+        return (
+            f"{text[:end]}\n\n{impl(block_of_type(function))} {{\n{uses}\n    {head}\n    {{ {body} }}\n}}\n"
+            f"{text[end:]}"
+        )
     if not re.search(rf"\bstruct {re.escape(of_type)};", text):
         raise ValueError(f"{function.path} has the contract of a trait, and {of_type} has fields or parameters")
     head = text[begin : function.head] + named(text[function.head : function.start])

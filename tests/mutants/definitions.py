@@ -1,8 +1,8 @@
 """Finds what a text of a crate means by the names in it: definitions of `specs/`, and types and constants of `src/`.
 
-Each is found by the `use` lines of the file that names it, as the prover and the compiler find it, or in the file. Where
-a crate hands out a type, a trait or a constant of another one, it is found by its name, in the crate and in those below.
-With a type come its `impl` blocks that give ghost members a meaning, without the bodies of their functions.
+Each is found by the `use` lines of the file that names it, as the prover and the compiler find it, or in the file.
+Where a crate hands out a type, a trait or a constant of another one, it is found by its name, in the crate and in those
+below. With a type come its `impl` blocks that give ghost members a meaning, without the bodies of their functions.
 """
 
 import re

@@ -69,16 +69,19 @@ def edits_of_headline(canonical, alike, one, callers):
     )
 
 
-def edits_of_equivalence(front, first, second, callers):
-    """Returns the edits that leave one direction of `first ↔ second` each, and what needs the one that is gone."""
+def edits_of_equivalence(front, first, second, backwards, forwards):
+    """Returns the edits that leave one direction of `first ↔ second` each: without what is `backwards`, and without what
+    is `forwards`, with the callers that need it.
+    """
     return (
-        Edit(f"{front}{first} ↔ {second}", f"{front}({first} → {second}) × ⊤", (callers[0],)),
-        Edit(f"{front}{first} ↔ {second}", f"{front}⊤ × ({second} → {first})", (callers[1],)),
+        Edit(f"{front}{first} ↔ {second}", f"{front}({first} → {second}) × ⊤", backwards),
+        Edit(f"{front}{first} ↔ {second}", f"{front}⊤ × ({second} → {first})", forwards),
     )
 
 
 OF_WHOLE = "crates/pf_whole/specs/Laws.antt"
 FEWER = "argument_types::serves"
+BY_SECOND, SHARED = "meaning::are_equivalent_by_second", "meaning::share_a_text"
 BOUNDS = "AreBounds model u least greatest"
 LAWS = [
     Law(
@@ -95,11 +98,15 @@ LAWS = [
     Law(
         "pf_compare::laws::sameness",
         "uses",
-        edits_of_equivalence(
-            "(",
-            "AreEquivalent model t u",
-            "(canonical t h ≡ canonical u g)",
-            ("meaning::are_equivalent_by_second",) * 2,
+        (
+            Edit("AreEquivalent model t (canonical t h)", "⊤", (SHARED,)),
+            *edits_of_equivalence(
+                "(",
+                "AreEquivalent model t u",
+                "(canonical t h ≡ canonical u g)",
+                (BY_SECOND,),
+                (BY_SECOND, SHARED),
+            ),
         ),
     ),
     Law(
@@ -120,7 +127,7 @@ LAWS = [
             "    → (",
             "TextPrintsBy model respond t args out",
             "TextPrintsBy model respond u args out",
-            ("whole::print_alike",) * 2,
+            *[("whole::print_alike",)] * 2,
         ),
         OF_WHOLE,
     ),
@@ -132,14 +139,28 @@ LAWS = [
                 "pub alike : ",
                 "AreWholeAlike model t u",
                 "AreEquivalent model t u",
-                ("whole::are_alike_by_profile",) * 2,
+                *[("whole::are_alike_by_profile",)] * 2,
             ),
             *edits_of_equivalence(
                 "pub canonical : (c : Text) → (",
                 "IsWholeCanonicalOf model t c",
                 "IsCanonicalOf model t c",
-                ("whole::whole_text_by_profile", "whole::profile_text_by_whole"),
+                ("whole::whole_text_by_profile",),
+                ("whole::profile_text_by_whole",),
             ),
+        ),
+        OF_WHOLE,
+    ),
+    Law(
+        "pf_whole::laws::profile_compares",
+        "uses",
+        (
+            Edit(
+                "IsWholeComparisonOf model t u (whole_verdict comparison.verdict)",
+                "⊤",
+                ("whole::are_alike_by_comparison",),
+            ),
+            Edit("other ≡ whole_verdict comparison.verdict", "other ≡ other", ("whole::other_types_at",)),
         ),
         OF_WHOLE,
     ),

@@ -9,7 +9,8 @@ tries too. Both have lines of these kinds; lines that are empty or start with `#
     old: TEXT       the text to replace, which occurs once in the file
     copy: NAME      in mutants.txt, in the place of `old:`: the text is the body of a copy of this function of the file
     new: TEXT       the text that replaces it
-    same: TEXT      in mutants.txt: the text of the twin in its place, which means what the code means; a mutant of one pair
+    same: TEXT      in mutants.txt: the text of the twin in its place, which means what the code means; a mutant of one
+    pair
                     has none where twins.py makes the twin
     twin: NAME      starts the twin of a mutant of must-fail/, with `same:` and without `new:`; or that mutant in other
                     words, with both

@@ -51,8 +51,8 @@ class Trial:
         return [it for it in self.tried() if it.label() not in self.found]
 
     def tasks(self, jobs):
-        """Returns the tasks that try what is left. What takes longest goes first: the mutants of a high crate, and those
-        of no function, each tried alone.
+        """Returns the tasks that try what is left. What takes longest goes first: the mutants of a high crate, and
+        those of no function, each tried alone.
         """
         height = -len(self.built.crates.below(self.name))
         groups = [[it] for it in self.left() if not it.functions]
@@ -65,9 +65,9 @@ class Trial:
     def judge(self, mutants, has_answers=True):
         """Tries mutants in one check, and returns the tasks that try those again that it doesn't show refused.
 
-        A failing answer hides the other goals of its function. So those whose functions have answers are tried once more
-        without these, all in one check, and then mutants each alone, since another one may be the reason. If a check
-        doesn't come to its end, its mutants are tried in two parts.
+        A failing answer hides the other goals of its function. So those whose functions have answers are tried once
+        more without these, all in one check, and then mutants each alone, since another one may be the reason. If a
+        check doesn't come to its end, its mutants are tried in two parts.
         """
         report, half = self.checked(mutants, has_answers), len(mutants) // 2
         if not report.is_whole() and half:

@@ -37,12 +37,14 @@ from tests.mutants.mutant_trials import Trial
 from tests.mutants.refused import Record
 from tests.mutants.schedule import run_all, say
 
-# The gate tries one mutant in 20, all of them of one crate in 3: what the mutants of a crate share costs most of a trial.
+# The gate tries one mutant in 20, all of them of one crate in 3: what the mutants of a crate share costs most of a
+# trial.
 ONE_IN, CRATES_ONE_IN = 20, 3
 
 
 class Mutants:
-    """The mutants of all crates, with the records of those that were refused, by the kit that is here or another one."""
+    """The mutants of all crates, with the records of those that were refused, by the kit that is here or another one.
+    """
 
     def __init__(self, crates, of_kit=None):
         self.crates, self.keys = crates, Keys(crates, of_kit)
@@ -69,7 +71,10 @@ class Mutants:
             if mutant.twin is None:
                 yield f"{name}/{mutant.name} has no twin"
             elif not self.is_current(name, mutant):
-                yield f"{name}/{mutant.name} has no current line: `python3 -m tests.mutants {name} {mutant.name}` tries it"
+                yield (
+                    f"{name}/{mutant.name} has no current line: `python3 -m tests.mutants {name} {mutant.name}` tries "
+                    f"it"
+                )
         record, names = self.records[name], {it.name for it in self.of_crate[name]}
         for mutant in sorted(record.lines.keys() - names):
             yield f"{name}/{mutant} has a line and is no mutant: `python3 -m tests.mutants {name}` drops it"
@@ -100,7 +105,8 @@ def in_order(seed, mutants):
 
 
 def seed_of(top):
-    """Returns what a sample depends on: the commit, which nobody can choose, or the lists of mutants if git has none."""
+    """Returns what a sample depends on: the commit, which nobody can choose, or the lists of mutants if git has none.
+    """
     how = {"cwd": top, "stdout": subprocess.PIPE, "stderr": subprocess.DEVNULL, "check": True}
     try:
         return subprocess.run(["git", "rev-parse", "HEAD"], **how).stdout.decode().strip()
@@ -122,8 +128,8 @@ def try_all(built, wanted, jobs, refused):
 
 
 def compare_records(mutants):
-    """Compares the record of each crate with its mutants and clauses, and returns how many mutants are recorded, and how
-    many faults there are.
+    """Compares the record of each crate with its mutants and clauses, and returns how many mutants are recorded, and
+    how many faults there are.
     """
     faults = [fault for name in mutants.of_crate for fault in mutants.faults_of_record(name)]
     count, missing, needless = unbroken(mutants)
@@ -166,7 +172,9 @@ def try_wanted(mutants, options):
 
 
 def main():
-    parser = argparse.ArgumentParser("python3 -m tests.mutants", description="Tries mutants: the prover must refuse each.")
+    parser = argparse.ArgumentParser(
+        "python3 -m tests.mutants", description="Tries mutants: the prover must refuse each."
+    )
     parser.add_argument("--jobs", type=int, default=1, help="how many checks run side by side")
     how = parser.add_mutually_exclusive_group()
     how.add_argument("--all", action="store_true", help="try those with a current line, too")

@@ -47,7 +47,8 @@ def group_end(code, start):
 
 
 def plain_name(type_text):
-    """A type or trait without its arguments, references and path: `&mut io::Cut<T>` is `Cut`, and `(P, Q)` is `Tuple2`."""
+    """A type or trait without its arguments, references and path: `&mut io::Cut<T>` is `Cut`, and `(P, Q)` is `Tuple2`.
+    """
     text = type_text.replace("->", "").split(" where ")[0].strip()
     if text.startswith("("):
         return f"Tuple{text.count(',') + 1}"

@@ -4,8 +4,8 @@ Usage: python3 -m unittest tests.mutants.statements
 
 A law has no body, so no mutant holds its statement. Each law here has callers in crates/uses or crates/uses_low whose
 clauses follow from it. Here they require the statement instead, over a copy of its definition. With the definition as
-it is, they are proved. With each edit, those that need what it takes away aren't, and the others are. One check of a crate
-tries all: each round of edits has copies of the callers.
+it is, they are proved. With each edit, those that need what it takes away aren't, and the others are. One check of a
+crate tries all: each round of edits has copies of the callers.
 """
 
 import itertools
@@ -158,7 +158,8 @@ def rounds_of(laws):
 
 
 def tried(laws, edits):
-    """Returns the laws that a round tries, with their edits: all where nothing is edited, and otherwise those edited."""
+    """Returns the laws that a round tries, with their edits: all where nothing is edited, and otherwise those edited.
+    """
     return [(law, edit) for law, edit in zip(laws, edits) if edit or not any(edits)]
 
 

@@ -1,7 +1,8 @@
-"""Tries the script of the mutants: each kind of mutant gets its verdict, and a line of a record holds as long as it should.
+"""Tries the script of the mutants: each kind of mutant gets its verdict, and a line of a record holds as long as it
+should.
 
-Its crates are those of toy_crates.py, which the prover checks in seconds. `make mutants` runs it, and not the gate, which
-tries mutants that must be refused with twins that must get through.
+Its crates are those of toy_crates.py, which the prover checks in seconds. `make mutants` runs it, and not the gate,
+which tries mutants that must be refused with twins that must get through.
 """
 
 import os
@@ -140,7 +141,9 @@ class KeysOfMutants(unittest.TestCase):
             Mutant("m", [Pair("src/made.rt", "called(n)", "called(n) + 2")], functions),
             Mutant("m", [Pair("src/made.rt", "called(n)", "called(n) + 1", "made")], functions),
             Mutant("m", self.MUTANT.pairs, frozenset(["made::called"])),
-            Mutant("m", self.MUTANT.pairs, functions, twin=Mutant("m", [Pair("src/made.rt", "called(n)", "(called(n))")])),
+            Mutant(
+                "m", self.MUTANT.pairs, functions, twin=Mutant("m", [Pair("src/made.rt", "called(n)", "(called(n))")])
+            ),
         ]
         found = {self.key(folder / "a", mutant=it) for it in [self.MUTANT, *others]}
         self.assertEqual(len(found | {self.key(folder / "a", goals="returns of another")}), 6)
@@ -202,7 +205,9 @@ class Whole(unittest.TestCase):
         self.folder = Path(tempfile.mkdtemp(prefix="fmtcanon-test-"))
         self.addCleanup(shutil.rmtree, self.folder, ignore_errors=True)
         toy_crates.write(self.folder, toy_crates.FILES)
-        for script in [*TOP.glob("tests/__init__.py"), *TOP.glob("tests/frame/__init__.py"), *TOP.glob("tests/mutants/*.py")]:
+        for script in [
+            *TOP.glob("tests/__init__.py"), *TOP.glob("tests/frame/__init__.py"), *TOP.glob("tests/mutants/*.py")
+        ]:
             toy_crates.write(self.folder, {str(script.relative_to(TOP)): script.read_text(encoding="utf-8")})
 
     def has_mutants(self, names, crate="low"):
@@ -240,7 +245,9 @@ class Whole(unittest.TestCase):
         self.assertEqual(self.run_script("--recorded"), ({}, "2 passed, 0 failed", 0))
         # A line with other goals is not current.
         file = self.folder / "crates/low/refused.txt"
-        file.write_text(file.read_text(encoding="utf-8").replace(" returns of same", " returns of limit"), encoding="utf-8")
+        file.write_text(
+            file.read_text(encoding="utf-8").replace(" returns of same", " returns of limit"), encoding="utf-8"
+        )
         self.assertEqual(self.run_script("--recorded"), ({}, "1 passed, 1 failed", 1))
         self.forge("twin", "returns of limit", ({"twin": REFUSED}, "0 passed, 1 failed", 1))
         self.assertIn("low/twin is recorded with other goals: returns of limit", self.said)
@@ -265,7 +272,9 @@ class Whole(unittest.TestCase):
         self.assertIn("low.rlib isn't what rt ci proved of these sources: make gate", self.said)
         for library in self.folder.glob("crates/*/out/rlib"):
             shutil.rmtree(library)
-        self.assertEqual(subprocess.run(["rt", "ci"], cwd=self.folder, stdout=subprocess.PIPE, check=False).returncode, 0)
+        self.assertEqual(
+            subprocess.run(["rt", "ci"], cwd=self.folder, stdout=subprocess.PIPE, check=False).returncode, 0
+        )
         self.assertEqual(self.run_script("--gate")[2], 1)
         self.assertEqual(self.run_module("tests.mutants.built", "--mark"), 0, self.folder)
         self.assertEqual(self.run_script("--gate"), wanted)
@@ -286,7 +295,9 @@ class Sampling(unittest.TestCase):
         toy_crates.write(folder, {"crates.txt": "".join(f"{it}:\n" for it in names)})
         for name in names:
             text = "".join(f"mutant: {name}{it}\n{pairs}" for it in range(21))
-            toy_crates.write(folder, {f"crates/{name}/src/lib.rt": "fn a() { 1 }\n", f"crates/{name}/mutants.txt": text})
+            toy_crates.write(
+                folder, {f"crates/{name}/src/lib.rt": "fn a() { 1 }\n", f"crates/{name}/mutants.txt": text}
+            )
         mutants = Mutants(Crates(folder))
         samples = [mutants.sample(seed) for seed in map(str, range(30))]
         self.assertEqual({tuple(it) for it in samples}, {("a", "d"), ("b",), ("c",)})

@@ -198,11 +198,17 @@ MUTANTS = {
     "renamed": (f"{WIDE}let broad = u32::from(n); let wide = broad;", Verdict.LET_THROUGH),
     "same-meaning": ("file: src/lib.rt\nold: let kept = n;\nnew: let kept = (n);", Verdict.LET_THROUGH),
     # The twin means the same, and has an open goal, too: its branch would need an answer. In a copy it needs none.
-    "twin-like-it": (f"{SEVEN} 3; }}\nsame: let wide = u32::from(n); if n == 7 {{ return wide + wide; }}", Verdict.TWIN_REFUSED),
+    "twin-like-it": (
+        f"{SEVEN} 3; }}\nsame: let wide = u32::from(n); if n == 7 {{ return wide + wide; }}", Verdict.TWIN_REFUSED
+    ),
     "copy": (f"{COPY} 3; }} twice(n)\nsame: if n == 7 {{ return twice(n); }} twice(n)", Verdict.REFUSED),
     "twin": ("file: src/lib.rt\nold: let kept = n;\nnew: let kept = 1;\nsame: let kept = n + 0;", Verdict.REFUSED),
-    "wrong-twin": ("file: src/lib.rt\nold: let kept = n;\nnew: let kept = 1;\nsame: let kept = 2;", Verdict.TWIN_REFUSED),
-    "broken-twin": ("file: src/lib.rt\nold: let kept = n;\nnew: let kept = 1;\nsame: let kept = true;", Verdict.TWIN_BROKEN),
+    "wrong-twin": (
+        "file: src/lib.rt\nold: let kept = n;\nnew: let kept = 1;\nsame: let kept = 2;", Verdict.TWIN_REFUSED
+    ),
+    "broken-twin": (
+        "file: src/lib.rt\nold: let kept = n;\nnew: let kept = 1;\nsame: let kept = true;", Verdict.TWIN_BROKEN
+    ),
     "not-there": ("file: src/lib.rt\nold: let lost = n;\nnew: let kept = n;", Verdict.BROKEN),
     "contract": ("file: src/lib.rt\nold: result ≡ 100\nnew: 100 ≡ 100", Verdict.BROKEN),
     "another-type": ("file: src/lib.rt\nold: let kept = n;\nnew: let kept = true;", Verdict.BROKEN),
@@ -215,7 +221,9 @@ OF_MIDDLE = {"by-two": ("file: src/lib.rt\nold: twice(n)\nnew: twice(n) + 1\nsam
 
 def mutants_text(names):
     """Returns the text of a `mutants.txt` with these mutants."""
-    return "".join(f"mutant: {name}\n{(MUTANTS[name] if name in MUTANTS else OF_MIDDLE[name])[0]}\n\n" for name in names)
+    return "".join(
+        f"mutant: {name}\n{(MUTANTS[name] if name in MUTANTS else OF_MIDDLE[name])[0]}\n\n" for name in names
+    )
 
 
 def in_folder(test):

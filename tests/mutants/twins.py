@@ -1,7 +1,7 @@
 """Makes the twin of a mutant by a rule: the mutant's shape, with what the code means.
 
-Of a copy: each `return` returns what the last expression of its body is, the call of the function. Of an edit of an arm of a
-match or of a field: its value is named first, `{ let it = VALUE; it }`.
+Of a copy: each `return` returns what the last expression of its body is, the call of the function. Of an edit of an arm
+of a match or of a field: its value is named first, `{ let it = VALUE; it }`.
 """
 
 import re
@@ -15,7 +15,9 @@ def last_expression(body):
     depth = at = 0
     for index, letter in enumerate(body):
         depth += {"(": 1, "[": 1, "{": 1, ")": -1, "]": -1, "}": -1}.get(letter, 0)
-        ends_block = letter == "}" and body[index + 1 : index + 2] == " " and not body.startswith(("else", "."), index + 2)
+        ends_block = letter == "}" and body[index + 1 : index + 2] == " " and not body.startswith(
+            ("else", "."), index + 2
+        )
         if depth == 0 and (letter == ";" or ends_block):
             at = index + 1
     return body[at:].strip()

@@ -11,7 +11,16 @@ from tests.frame.harness import NO_PROGRAM, SONAME, VERSION
 from tests.library.emulated_python import environment_of
 from tests.library.test_library import lines_of
 from tests.packages import test_installing as installing
-from tests.packages.test_installing import BUILT_FOR_AARCH64, COMMANDS, MODULE, OF_PROGRAM, PLACES, files_below, make, wanted_files
+from tests.packages.test_installing import (
+    BUILT_FOR_AARCH64,
+    COMMANDS,
+    MODULE,
+    OF_PROGRAM,
+    PLACES,
+    files_below,
+    make,
+    wanted_files,
+)
 
 PATTERNS = {"dist": "*.tar.gz", "deb": "*.deb", "wheel": "*.whl"}
 LIBRARIES = "lib/aarch64-linux-gnu"
@@ -112,15 +121,20 @@ def try_wheel(file, glibc, python, trials, work):
 def try_module(python, folder, trials, work):
     """The module of a folder answers on AArch64, and says what needs the program."""
     environment = environment_of(PYTHONPATH=str(folder), FMTCANON_PROGRAM=NO_PROGRAM)
-    script = "import fmtcanon; print(fmtcanon.canonical('%i'), fmtcanon.format('%05d', 7), fmtcanon.show('%#o')[0].core)"
+    script = (
+        "import fmtcanon; print(fmtcanon.canonical('%i'), fmtcanon.format('%05d', 7), "
+        "fmtcanon.show('%#o')[0].core)"
+    )
     answers = lines_of([python, "-c", script], env=environment, cwd=work)
     trials.expect("the module of the wheel", answers, (0, "%d b'00007' %.0o\n"))
     explained = lines_of([python, "-m", "fmtcanon.explain", "%5d"], env=environment, cwd=work)
-    wanted = "%5d\n^^^   argument 1, int: decimal, right-justified in at least 5 bytes\nkey: %5d\nit prints 5 to 11 bytes\n"
+    wanted = (
+        "%5d\n^^^   argument 1, int: decimal, right-justified in at least 5 bytes\nkey: %5d\nit prints 5 to 11 bytes\n"
+        ""
+    )
     trials.expect("fmtcanon-explain of the wheel", explained, (0, wanted))
-    for words in [["-c", "import fmtcanon; fmtcanon.Session('canon')"], ["-m", "fmtcanon", "canon", "%i"]]:
-        status, output = lines_of([python, *words], env=environment, cwd=work)
-        trials.expect(f"{words} without the program: {output}", (status != 0, "which is for x86-64" in output), (True, True))
+    status, output = lines_of([python, "-m", "fmtcanon", "canon", "%i"], env=environment, cwd=work)
+    trials.expect(f"the program: {output}", (status != 0, "which is for x86-64" in output), (True, True))
 
 
 def try_packages(cross, python, trials, work):

@@ -29,8 +29,10 @@ TRIED = [
     ("fmtcanon-diff size.c other.c 2> counts; echo $?", 'other.c:2:32: same in lp64 only: "%zu" and "%lu"\n1\n'),
     (
         "fmtcanon-replace %zu %lu size.c || true",
-        "size.c:2:32: left: in ILP32 the types differ at argument 1, counted from 1: %zu takes unsigned int and %lu takes "
-        "unsigned long; in LLP64 the types differ at argument 1, counted from 1: %zu takes unsigned long long and %lu takes "
+        "size.c:2:32: left: in ILP32 the types differ at argument 1, counted from 1: %zu takes unsigned int and %lu "
+        "takes "
+        "unsigned long; in LLP64 the types differ at argument 1, counted from 1: %zu takes unsigned long long and %lu "
+        "takes "
         "unsigned long\n",
     ),
     ("fmtcanon-replace --model lp64 %zu %lu size.c", "size.c:2:32: replaced\n"),
@@ -154,13 +156,18 @@ def test_wheel(trials):
         # Without a network, and with no compiler to be found.
         wheels = list((TOP / "out").glob(f"fmtcanon-{VERSION}-py3-none-manylinux_*_x86_64.whl"))
         tag = installing.needed_by_page()[0].replace(".", "_")
-        trials.expect("the wheel", [it.name for it in wheels], [f"fmtcanon-{VERSION}-py3-none-manylinux_{tag}_x86_64.whl"])
+        trials.expect(
+            "the wheel", [it.name for it in wheels], [f"fmtcanon-{VERSION}-py3-none-manylinux_{tag}_x86_64.whl"]
+        )
         words = [folder / "pip", "install", "--no-index", "--quiet", "--disable-pip-version-check", *wheels]
         if shutil.which("unshare") and os.geteuid() == 0:
             words = [shutil.which("unshare"), "--net", *words]
         status, output = shell(words, env=environment, cwd=work)
         trials.expect(f"pip install of the wheel: {output}", status, 0)
-        script = "import fmtcanon, importlib.metadata as m; print(fmtcanon.canonical('%i'), fmtcanon.format('%05d', 7), *fmtcanon.show('%%'), fmtcanon.__version__, m.version('fmtcanon'), m.metadata('fmtcanon')['License'])"
+        script = (
+            "import fmtcanon, importlib.metadata as m; print(fmtcanon.canonical('%i'), fmtcanon.format('%05d', 7), "
+            "*fmtcanon.show('%%'), fmtcanon.__version__, m.version('fmtcanon'), m.metadata('fmtcanon')['License'])"
+        )
         wanted = (0, f"%d b'00007' Percent(spelling='%%') {VERSION} {VERSION} MIT\n")
         trials.expect(
             "the module of the wheel", shell([folder / "python", "-c", script], env=environment, cwd=work), wanted

@@ -122,7 +122,9 @@ def prototypes(text):
     """The functions that a text declares or has inline, each in one line."""
     plain = re.sub(r"/\*.*?\*/", "", text, flags=re.DOTALL)
     plain = re.sub(r"^static inline (.*\))$", r"\1;", plain, flags=re.MULTILINE)
-    return [" ".join(one.split()) for one in re.findall(r"^\w[\w *]* \**fmtcanon_\w+\([^)]*\);", plain, flags=re.MULTILINE)]
+    return [
+        " ".join(one.split()) for one in re.findall(r"^\w[\w *]* \**fmtcanon_\w+\([^)]*\);", plain, flags=re.MULTILINE)
+    ]
 
 
 def calls():
@@ -444,7 +446,9 @@ def test_command_pages(trials):
 
 
 def test_first_command(trials):
-    """`make run`, which proves nothing, prints what the README and docs/INSTALL.md say; asked again, it compiles nothing."""
+    """`make run`, which proves nothing, prints what the README and docs/INSTALL.md say; asked again, it compiles
+    nothing.
+    """
     install, readme = ((TOP / name).read_text(encoding="utf-8") for name in ("docs/INSTALL.md", "README.md"))
     [(first, line)] = re.findall(r"^    (make run)\n\n.*prints `(.*)` in a minute or two", install, re.MULTILINE)
     [again] = re.findall(r'`(make run ASK="[^`]*")`', readme)

@@ -125,8 +125,8 @@ def test_every_two_texts(module, trials):
 
 
 def test_differences(module, trials):
-    """Texts that differ at one byte, wherever it is, or at the end of one are told apart. If both are rejected, the first
-    refusal is returned.
+    """Texts that differ at one byte, wherever it is, or at the end of one are told apart. If both are rejected, the
+    first refusal is returned.
     """
     (row,) = rows_of("differences.jsonl")
     text, items, spellings = row["text"], row["items"], row["spellings"]

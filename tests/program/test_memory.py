@@ -104,8 +104,8 @@ def growth_ends(program, words, stdin, library, answer, count):
 def test_growths(program, trials):
     """If allocations are refused from one on, whichever it is, memory is out, and nothing was written.
 
-    Where it is one alone, too, except for the room of the list of the words, which std asks for ahead, and then again as
-    the words come; and where `clap` finds a fault, for what it takes to look for a tip. Then the end is as ever.
+    Where it is one alone, too, except for the room of the list of the words, which std asks for ahead, and then again
+    as the words come; and where `clap` finds a fault, for what it takes to look for a tip. Then the end is as ever.
     """
     rows = [(words, stdin, (status, text, b"")) for words, stdin, status, text in ANSWERED]
     rows += [(words, b"", (2, b"", line)) for words, line in REFUSED]

@@ -155,7 +155,8 @@ def test_flags(program, module, trials):
 
 
 def values(bits, is_unsigned):
-    """0, 1, -1, and the smallest and the largest number of this many bits; an unsigned type has those of the same bits."""
+    """0, 1, -1, and the smallest and the largest number of this many bits; an unsigned type has those of the same bits.
+    """
     half = 1 << bits - 1
     return [0, 1, 2 * half - 1, half, half - 1] if is_unsigned else [0, 1, -1, -half, half - 1]
 

@@ -1,7 +1,8 @@
 """Tries the program and the C library over long formats: what they answer, within a time.
 
 Each run may take fifty times what it took when its row was written: a run whose time grows with the square of the
-length takes more, and one on a slow machine takes less. All answers are worked out from the lengths. It needs a Linux system with gcc.
+length takes more, and one on a slow machine takes less. All answers are worked out from the lengths. It needs a Linux
+system with gcc.
 """
 
 import math

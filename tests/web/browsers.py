@@ -1,4 +1,6 @@
-"""Browsers without a window, by the protocol of their drivers: chromedriver's over HTTP, and Firefox's own (Marionette)."""
+"""Browsers without a window, by the protocol of their drivers: chromedriver's over HTTP, and Firefox's own
+(Marionette).
+"""
 
 import base64
 import contextlib

@@ -17,8 +17,8 @@ def number(value):
 
 
 def told(found, model):
-    """What is found, with each argument that is a number, and each size, as a text; and the size in words, and where the
-    key isn't the same as the format.
+    """What is found, with each argument that is a number, and each size, as a text; and the size in words, and where
+    the key isn't the same as the format.
     """
     told = as_json(found)
     for one in (told, told.get("types") or {}):

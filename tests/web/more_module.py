@@ -77,8 +77,8 @@ def test_memory(node, module, trials):
 
 
 def test_made(module, work, tools, trials):
-    """The module and the page have the same bytes when they are made again in another folder, and the page in the documents
-    is this one.
+    """The module and the page have the same bytes when they are made again in another folder, and the page in the
+    documents is this one.
     """
     tools.need("wasm-opt", "binaryen")
     kept = built("FMTCANON_BITCODE", "out/web/fmtcanon.bc")

@@ -1,7 +1,7 @@
 """Tries the page: what it knows compared with `fmtcanon-explain`, and the page itself in Chromium and in Firefox.
 
-It needs what `make page` makes, node, chromium, chromedriver and firefox-esr. Pictures of the page go to the folder that
-FMTCANON_SHOTS names, if it names one.
+It needs what `make page` makes, node, chromium, chromedriver and firefox-esr. Pictures of the page go to the folder
+that FMTCANON_SHOTS names, if it names one.
 """
 
 import json

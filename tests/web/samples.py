@@ -68,7 +68,9 @@ def mutated(text, pick):
 
 
 def pairs(count):
-    """Pairs of formats: some that only a long string tells apart, and each with one that differs little, or with another."""
+    """Pairs of formats: some that only a long string tells apart, and each with one that differs little, or with
+    another.
+    """
     for length in (9, 20, 300, 4095):
         for front in ("", "a%d", "%5c %-3s "):
             yield f"{front}%.{length}s", f"{front}%s"

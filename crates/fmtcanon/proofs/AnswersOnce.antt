@@ -28,8 +28,8 @@ use Rattle.pf_whole.proofs.SomeCanonical.{one_whole_canonical}
 use Rattle.fmtcanon.specs.declared.answer.Ending.{Ending}
 use Rattle.fmtcanon.specs.declared.answer.Ending.TheVariants as endings
 use Rattle.fmtcanon.specs.declared.formats.GivenFormat.{GivenFormat}
-use Rattle.fmtcanon.specs.declared.formats.Notation.{Notation}
-use Rattle.fmtcanon.specs.declared.formats.Notation.TheVariants.{Bytes, Literals}
+use Rattle.fmtcanon.specs.declared.formats.FormatNotation.{FormatNotation}
+use Rattle.fmtcanon.specs.declared.formats.FormatNotation.TheVariants.{Bytes, Literals}
 use Rattle.fmtcanon.specs.declared.models.Models.{Models}
 use Rattle.fmtcanon.specs.declared.models.Models.TheVariants as models
 use Rattle.fmtcanon.specs.declared.questions.FormatQuestion.{FormatQuestion}
@@ -56,7 +56,7 @@ use Rattle.fmtcanon.proofs.ArgumentWordLemmas.{spells_one}
 -- the bytes of a format
 one_format : (given : GivenFormat) (bytes others : Text) → IsFormat given bytes → IsFormat given others → bytes ≡ others
 one_format given bytes others h g = go given.notation h g where
-  go : (notation : Notation) → HoldsFormat notation given.text.now bytes → HoldsFormat notation given.text.now others → bytes ≡ others
+  go : (notation : FormatNotation) → HoldsFormat notation given.text.now bytes → HoldsFormat notation given.text.now others → bytes ≡ others
   go Bytes h g = h ∙ sym g
   go Literals h g = one_source given.text.now bytes others h g
 
@@ -165,7 +165,7 @@ shown_once model format out other h g =
     h.whole ∙ ap concat (one_lines model h.shown h.parts g.parts h.each (subst (λ xs. AllZip (IsLineOf model) xs g.parts) same g.each)) ∙ sym g.whole
 
 -- what is answered about the bytes of one format
-one_text : (question : FormatQuestion) (notation : Notation) (model : Model) (bytes out other : Text) → HasAnswer question notation model bytes out
+one_text : (question : FormatQuestion) (notation : FormatNotation) (model : Model) (bytes out other : Text) → HasAnswer question notation model bytes out
     → HasAnswer question notation model bytes other → out ≡ other
 one_text Types notation model bytes out other h g =
     h.2 ∙ ap (λ items. flat_map type_line (types model items)) (Reads-unique bytes h.0 g.0 h.1.reads g.1.reads) ∙ sym g.2
@@ -188,7 +188,7 @@ one_spelled (word ∷ words) (argument ∷ arguments) [] h g = absurd g
 one_spelled (word ∷ words) (argument ∷ arguments) (other ∷ others) h g =
     ap (λ a. a ∷ arguments) (spells_one word argument other h.0 g.0) ∙ ap (λ l. other ∷ l) (one_spelled words arguments others h.1 g.1)
 
-one_about : (question : OneQuestion) (notation : Notation) (model : Model) (bytes out other : Text) → HasOneAnswer question notation model bytes out
+one_about : (question : OneQuestion) (notation : FormatNotation) (model : Model) (bytes out other : Text) → HasOneAnswer question notation model bytes out
     → HasOneAnswer question notation model bytes other → out ≡ other
 one_about (Any question) notation model bytes out other h g = one_text question notation model bytes out other h g
 one_about (Printed words) notation model bytes out other h g =

@@ -22,7 +22,7 @@ use Rattle.fmtcanon.specs.declared.questions.PairQuestion.{PairQuestion}
 use Rattle.fmtcanon.specs.declared.outcome.Outcome.{Outcome}
 use Rattle.fmtcanon.specs.declared.outcome.Outcome.TheVariants.{Refused, BadWord, WrongCount, WrongType, Memory}
 use Rattle.fmtcanon.specs.declared.formats.GivenFormat.{GivenFormat}
-use Rattle.fmtcanon.specs.declared.formats.Notation.TheVariants.{Literals}
+use Rattle.fmtcanon.specs.declared.formats.FormatNotation.TheVariants.{Literals}
 use Rattle.fmtcanon.specs.declared.questions.OneQuestion.{OneQuestion}
 use Rattle.fmtcanon.specs.declared.questions.OneQuestion.TheVariants.{Any, Printed}
 

@@ -15,7 +15,7 @@ use Rattle.fmtcanon.specs.declared.answer.Ending.TheVariants as endings
 use Rattle.fmtcanon.specs.declared.outcome.Outcome.{Outcome}
 use Rattle.fmtcanon.specs.declared.outcome.Outcome.TheVariants.{Refused, BadLiteral, BadWord, WrongCount, WrongType, Memory}
 use Rattle.fmtcanon.specs.declared.formats.GivenFormat.{GivenFormat}
-use Rattle.fmtcanon.specs.declared.formats.Notation.{Notation}
+use Rattle.fmtcanon.specs.declared.formats.FormatNotation.{FormatNotation}
 use Rattle.fmtcanon.specs.declared.questions.FormatQuestion.{FormatQuestion}
 use Rattle.fmtcanon.specs.declared.questions.FormatQuestion.TheVariants.{Types, WholeTypes, Canonical, WholeCanonical, Parts, Bounds}
 use Rattle.fmtcanon.specs.declared.questions.OneQuestion.{OneQuestion}
@@ -39,12 +39,12 @@ use Rattle.fmtcanon.specs.Shows.{HasShownLines}
 use Rattle.fmtcanon.specs.TypeLines.{HasTypeLines}
 
 -- the canonical text of an accepted format, in a notation, and a newline
-abbrev pub HasCanonicalLine : Notation → (Text → Type 0) → Text → Type 0
+abbrev pub HasCanonicalLine : FormatNotation → (Text → Type 0) → Text → Type 0
 HasCanonicalLine notation IsCanonical out =
     (canonical : Text) × IsCanonical canonical × (out ≡ line (written_in notation canonical))
 
 -- what is answered about the bytes of a format, whatever it is
-abbrev pub HasAnswer : FormatQuestion → Notation → Model → Text → Text → Type 0
+abbrev pub HasAnswer : FormatQuestion → FormatNotation → Model → Text → Text → Type 0
 HasAnswer Types notation model bytes out = HasTypeLines model bytes out
 HasAnswer WholeTypes notation model bytes out = HasArgumentLines model bytes out
 HasAnswer Canonical notation model bytes out = HasCanonicalLine notation (IsCanonicalFor model bytes) out
@@ -53,7 +53,7 @@ HasAnswer Parts notation model bytes out = HasShownLines model bytes out
 HasAnswer Bounds notation model bytes out = HasBoundsLine model bytes out
 
 -- what is answered about the bytes of one format
-abbrev pub HasOneAnswer : OneQuestion → Notation → Model → Text → Text → Type 0
+abbrev pub HasOneAnswer : OneQuestion → FormatNotation → Model → Text → Text → Type 0
 HasOneAnswer (Any question) notation model bytes out = HasAnswer question notation model bytes out
 HasOneAnswer (Printed words) notation model bytes out =
     IsPrinted model bytes (map (λ s. s.now) words.items) out

@@ -12,26 +12,26 @@ use Rattle.pf_values.specs.declared.models.Model.{Model}
 use Rattle.pf_values.specs.meaning.Canonical.{IsCanonicalOf}
 use Rattle.pf_values.specs.meaning.Text.{Text}
 use Rattle.fmtcanon.specs.declared.formats.GivenFormat.{GivenFormat}
-use Rattle.fmtcanon.specs.declared.formats.Notation.{Notation}
-use Rattle.fmtcanon.specs.declared.formats.Notation.TheVariants.{Bytes, Literals}
+use Rattle.fmtcanon.specs.declared.formats.FormatNotation.{FormatNotation}
+use Rattle.fmtcanon.specs.declared.formats.FormatNotation.TheVariants.{Bytes, Literals}
 
 -- a text gives these bytes: it is them, or it is string literals with these bytes
-abbrev pub HoldsFormat : Notation → Text → Text → Type 0
+abbrev pub HoldsFormat : FormatNotation → Text → Text → Type 0
 HoldsFormat Bytes text bytes = bytes ≡ text
 HoldsFormat Literals text bytes = IsSourceOf text bytes
 
 -- the offset in the text of a byte that it gives, or of the end of the bytes
-abbrev pub IsOffsetInText : Notation → Text → ℕ → ℕ → Type 0
+abbrev pub IsOffsetInText : FormatNotation → Text → ℕ → ℕ → Type 0
 IsOffsetInText Bytes text index at = at ≡ index
 IsOffsetInText Literals text index at = IsOffsetOf text index at
 
 -- the text gives no bytes, for this reason
-abbrev pub HoldsNoFormat : Notation → Text → LiteralRefusal → Type 0
+abbrev pub HoldsNoFormat : FormatNotation → Text → LiteralRefusal → Type 0
 HoldsNoFormat Bytes text refusal = ⊥
 HoldsNoFormat Literals text refusal = IsFaultAt text refusal.kind refusal.at
 
 -- how bytes are written
-abbrev pub written_in : Notation → Text → Text
+abbrev pub written_in : FormatNotation → Text → Text
 written_in Bytes bytes = bytes
 written_in Literals bytes = encoding bytes
 
@@ -43,7 +43,7 @@ abbrev pub IsNoFormat : GivenFormat → LiteralRefusal → Type 0
 IsNoFormat given refusal = HoldsNoFormat given.notation given.text.now refusal
 
 -- the bytes of literals are made in memory
-abbrev pub MakesBytes : Notation → Type 0
+abbrev pub MakesBytes : FormatNotation → Type 0
 MakesBytes Bytes = ⊥
 MakesBytes Literals = ⊤
 

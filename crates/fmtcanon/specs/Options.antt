@@ -6,8 +6,8 @@ use Rattle.clap.specs.Matches.{found_of}
 use Rattle.clap.specs.Walk.{Row, first_of, rows_of}
 use Rattle.clap.specs.declared.parser.matches.ArgMatches.{ArgMatches}
 use Rattle.pf_values.specs.meaning.Text.{Text}
-use Rattle.fmtcanon.specs.declared.formats.Notation.{Notation}
-use Rattle.fmtcanon.specs.declared.formats.Notation.TheVariants.{Bytes, Literals}
+use Rattle.fmtcanon.specs.declared.formats.FormatNotation.{FormatNotation}
+use Rattle.fmtcanon.specs.declared.formats.FormatNotation.TheVariants.{Bytes, Literals}
 
 -- the values that clap found for a subcommand
 abbrev pub rows_in : ArgMatches → List Row
@@ -30,5 +30,5 @@ abbrev pub is_fewer : List Row → Bool
 is_fewer rows = is_set (codes "fewer") rows
 
 -- `--literal`: they are given by string literals
-abbrev pub notation_in : List Row → Notation
+abbrev pub notation_in : List Row → FormatNotation
 notation_in rows = if is_set (codes "literal") rows then Literals else Bytes

@@ -20,8 +20,8 @@ ghost use Rattle.fmtcanon.specs.declared.models.Models.{Models};
 
 use crate::arguments::arguments_for;
 use crate::byte_counts::bounds_line;
-use crate::formats::{GivenFormat, Notation};
-use crate::lines::Output;
+use crate::formats::{GivenFormat, FormatNotation};
+use crate::lines::AnswerBytes;
 use crate::models::Models;
 use crate::outcome::Outcome;
 use crate::pairs::{pair_answer, refusal_of_first};
@@ -65,7 +65,7 @@ impl Ending {
 #[derive(Drop)]
 pub struct Answer {
     /// What is written.
-    pub output: Output,
+    pub output: AnswerBytes,
     /// How the run ends.
     pub ending: Ending,
 }
@@ -98,7 +98,7 @@ fn answer_of_one(
 {
     let bytes = answer_about_one(alloc, asked, model, format)?;
     Ok(Answer {
-        output: Output::Bytes(bytes),
+        output: AnswerBytes::Bytes(bytes),
         ending: Ending::Done,
     })
 }
@@ -126,7 +126,7 @@ pub fn answer_about_one(
 fn answer_about_bytes(
     alloc: Global,
     asked: &OneQuestion<'_>,
-    notation: Notation,
+    notation: FormatNotation,
     model: Model,
     bytes: &[u8],
 ) -> Result<Vec<u8>, Outcome>
@@ -143,7 +143,7 @@ fn answer_about_bytes(
 fn lines_about(
     alloc: Global,
     asked: FormatQuestion,
-    notation: Notation,
+    notation: FormatNotation,
     model: Model,
     bytes: &[u8],
 ) -> Result<Vec<u8>, Outcome>
@@ -288,7 +288,7 @@ fn print_format(
 // The canonical text of a format in a notation, and a newline.
 fn canonical_line(
     alloc: Global,
-    notation: Notation,
+    notation: FormatNotation,
     model: Model,
     format: &[u8],
 ) -> Result<Vec<u8>, Outcome>
@@ -310,7 +310,7 @@ fn canonical_text(alloc: Global, model: Model, format: &[u8]) -> Result<Vec<u8>,
 // The same for a format of the whole language.
 fn whole_canonical_line(
     alloc: Global,
-    notation: Notation,
+    notation: FormatNotation,
     model: Model,
     format: &[u8],
 ) -> Result<Vec<u8>, Outcome>

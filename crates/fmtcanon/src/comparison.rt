@@ -7,7 +7,7 @@ ghost use Rattle.fmtcanon.specs.Lines.{line, output_bytes};
 ghost use Rattle.fmtcanon.specs.declared.questions.PairQuestion.TheVariants.{Same, WholeSame};
 
 use crate::answer::{Answer, Ending};
-use crate::lines::{Output, difference_line, line_of};
+use crate::lines::{AnswerBytes, difference_line, line_of};
 use crate::outcome::Outcome;
 use pf_compare::{OwnedArg, first_difference};
 use pf_values::Model;
@@ -69,15 +69,15 @@ fn ending_of(verdict: &WholeVerdict) -> Ending
     }
 }
 
-fn verdict_lines(alloc: Global, verdict: &WholeVerdict) -> Result<Output, AllocError>
+fn verdict_lines(alloc: Global, verdict: &WholeVerdict) -> Result<AnswerBytes, AllocError>
     ensures { MatchResult result (λ out. output_bytes out ≡ verdict_lines verdict.now)
         (λ _. ShowsArguments verdict.now) }
 {
     match verdict {
-        WholeVerdict::Same => Ok(Output::Line(line_of("same"))),
-        WholeVerdict::Types(index) => Ok(Output::Line(difference_line("types", *index))),
-        WholeVerdict::Directives(index) => Ok(Output::Line(difference_line("directives", *index))),
-        WholeVerdict::Args(shown) => Ok(Output::Bytes(shown_lines(alloc, shown)?)),
+        WholeVerdict::Same => Ok(AnswerBytes::Line(line_of("same"))),
+        WholeVerdict::Types(index) => Ok(AnswerBytes::Line(difference_line("types", *index))),
+        WholeVerdict::Directives(index) => Ok(AnswerBytes::Line(difference_line("directives", *index))),
+        WholeVerdict::Args(shown) => Ok(AnswerBytes::Bytes(shown_lines(alloc, shown)?)),
     }
 }
 

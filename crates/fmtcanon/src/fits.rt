@@ -7,7 +7,7 @@ ghost use Rattle.fmtcanon.specs.Lines.{output_bytes};
 ghost use Rattle.fmtcanon.specs.declared.questions.PairQuestion.TheVariants.{Fits, FitsFewer};
 
 use crate::answer::{Answer, Ending};
-use crate::lines::{Line, Output, difference_line, line_of};
+use crate::lines::{Line, AnswerBytes, difference_line, line_of};
 use crate::outcome::Outcome;
 use pf_posix::{fits, fits_fewer};
 use pf_values::Model;
@@ -48,7 +48,7 @@ fn fit_answer(index: Option<u64>) -> Answer
     ensures ending { result.ending ≡ fit_ending index }
 {
     Answer {
-        output: Output::Line(fit_line(index)),
+        output: AnswerBytes::Line(fit_line(index)),
         ending: fit_ending(index),
     }
 }

@@ -12,21 +12,21 @@ use std::borrow::CowSlice;
 
 /// How formats are given, among the words and as records.
 #[derive(Clone, Copy)]
-pub enum Notation {
+pub enum FormatNotation {
     /// By their bytes.
     Bytes,
     /// By string literals with these bytes.
     Literals,
 }
 
-impl Notation {
+impl FormatNotation {
     /// Returns some bytes in this notation. `Err` if memory is refused.
     pub fn write(self, alloc: Global, bytes: Vec<u8>) -> Result<Vec<u8>, AllocError>
         ensures { IfOk result (λ out. out.items ≡ written_in self bytes.items) }
     {
         match self {
-            Notation::Bytes => Ok(bytes),
-            Notation::Literals => encode(alloc, &bytes),
+            FormatNotation::Bytes => Ok(bytes),
+            FormatNotation::Literals => encode(alloc, &bytes),
         }
     }
 }
@@ -35,14 +35,14 @@ impl Notation {
 #[derive(Clone, Copy)]
 pub struct GivenFormat<'a> {
     /// How it is given.
-    pub notation: Notation,
+    pub notation: FormatNotation,
     /// The text that gives it.
     pub text: &'a [u8],
 }
 
 impl<'a> GivenFormat<'a> {
     /// Returns the format that a text gives.
-    pub fn new(notation: Notation, text: &'a [u8]) -> GivenFormat<'a>
+    pub fn new(notation: FormatNotation, text: &'a [u8]) -> GivenFormat<'a>
         ensures notation { result.notation ≡ notation }
         ensures text { result.text.now ≡ text.now }
     {
@@ -55,8 +55,8 @@ impl<'a> GivenFormat<'a> {
             (IsBytesFault self.now) }
     {
         match self.notation {
-            Notation::Bytes => Ok(CowSlice::Borrowed(self.text)),
-            Notation::Literals => decoded(alloc, self.text),
+            FormatNotation::Bytes => Ok(CowSlice::Borrowed(self.text)),
+            FormatNotation::Literals => decoded(alloc, self.text),
         }
     }
 
@@ -66,9 +66,9 @@ impl<'a> GivenFormat<'a> {
             → IsOffsetInText self.now.notation self.now.text.now index result }
     {
         match self.notation {
-            Notation::Bytes => index,
+            FormatNotation::Bytes => index,
             // Each byte of a source has an offset, and so has their end.
-            Notation::Literals => source_offset(self.text, index).unwrap_or(index),
+            FormatNotation::Literals => source_offset(self.text, index).unwrap_or(index),
         }
     }
 }

@@ -13,21 +13,21 @@ pub type Line = ArrayString<96>;
 
 /// The bytes of an answer.
 #[derive(Drop)]
-pub enum Output {
+pub enum AnswerBytes {
     /// A line on the stack, so that memory can't be refused for it.
     Line(Line),
     /// Bytes in memory.
     Bytes(Vec<u8>),
 }
 
-impl Output {
+impl AnswerBytes {
     /// Returns the bytes.
     pub fn as_bytes(&self) -> &[u8]
         ensures { result.now ≡ output_bytes self.now }
     {
         match self {
-            Output::Line(line) => line.as_str().as_bytes(),
-            Output::Bytes(bytes) => bytes.as_slice(),
+            AnswerBytes::Line(line) => line.as_str().as_bytes(),
+            AnswerBytes::Bytes(bytes) => bytes.as_slice(),
         }
     }
 }

@@ -3,14 +3,14 @@ ghost use Rattle.std.specs.Prelude.{◌≡◌, codes, if◌then◌else◌};
 ghost use Rattle.std.specs.Str.{bytes_eq};
 ghost use Rattle.fmtcanon.specs.Options.{is_set, notation_in, rows_in};
 
-use crate::formats::Notation;
+use crate::formats::FormatNotation;
 use clap::ArgMatches;
 
 /// Returns how the formats are given.
-pub fn notation_of(inner: &ArgMatches<'_>) -> Notation
+pub fn notation_of(inner: &ArgMatches<'_>) -> FormatNotation
     ensures { result ≡ notation_in (rows_in inner.now) }
 {
-    if_set(inner, "literal", Notation::Literals, Notation::Bytes)
+    if_set(inner, "literal", FormatNotation::Literals, FormatNotation::Bytes)
 }
 
 /// Returns the first of two values if an option without a value is given, otherwise the second.

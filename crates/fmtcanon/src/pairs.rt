@@ -9,7 +9,7 @@ ghost use Rattle.fmtcanon.specs.Questions.{language_of};
 use crate::answer::{Answer, Ending};
 use crate::comparison::{alike_in, comparison_in};
 use crate::fits::{fewer_in, fit_in};
-use crate::lines::{Output, push_line};
+use crate::lines::{AnswerBytes, push_line};
 use crate::models::{Models, name_of};
 use crate::outcome::Outcome;
 use crate::questions::PairQuestion;
@@ -59,7 +59,7 @@ fn pair_answer_in_each(
         ending = ending_with(ending, answer.ending);
     }
     Ok(Answer {
-        output: Output::Bytes(bytes),
+        output: AnswerBytes::Bytes(bytes),
         ending,
     })
 }

@@ -3,7 +3,7 @@ ghost use Rattle.std.specs.Prelude.{◌≢◌, ◌∷◌, [], MatchOption, codes
 ghost use Rattle.fmtcanon.specs.Options.{rows_in};
 ghost use Rattle.fmtcanon.specs.Questions.{IsAbout, IsAsked, IsAskedOfOne, IsAskedOfTwo, IsNoQuestionName, formats_of, formats_wanted};
 
-use crate::formats::{GivenFormat, Notation};
+use crate::formats::{GivenFormat, FormatNotation};
 use crate::models::{Models, model_of, models_of};
 use crate::options::{if_set, notation_of};
 use clap::ArgMatches;
@@ -44,9 +44,9 @@ pub enum PairQuestion {
 #[derive(Clone, Copy)]
 pub enum RecordQuestion {
     /// This is asked about each format.
-    One(Notation, FormatQuestion, Model),
+    One(FormatNotation, FormatQuestion, Model),
     /// This is asked about each two formats.
-    Two(Notation, PairQuestion, Models),
+    Two(FormatNotation, PairQuestion, Models),
 }
 
 /// What is asked about one format.

@@ -11,7 +11,7 @@ use Rattle.pf_values.specs.meaning.Text.{Text}
 use Rattle.pf_text.specs.declared.refusals.Refusal.{Refusal}
 use Rattle.pf_canon.specs.declared.faults.StreamFault.{StreamFault}
 use Rattle.pf_canon.specs.declared.faults.StreamFault.TheVariants as faults
-use Rattle.pf_canon.specs.declared.output.Output.{Output}
+use Rattle.pf_canon.specs.declared.output.SettledText.{SettledText}
 use Rattle.pf_canon.specs.declared.canonical_bytes.ByteTransducer.{ByteTransducer}
 use Rattle.pf_canon.specs.declared.output.StepOutput.{StepOutput}
 use Rattle.pf_canon.specs.declared.transducer.Transducer.{Transducer}
@@ -174,7 +174,7 @@ module _ (model : Model) (r : Transducer) (start left : Known) (taken given : Te
 
   module _ (end : IsAtEnd left) where
     -- what the end settled waits
-    pub waits_last : (output : Output) (pending : Text) → output_text output ≡ pending → SettlesEnd model taken items given (Ok output)
+    pub waits_last : (output : SettledText) (pending : Text) → output_text output ≡ pending → SettlesEnd model taken items given (Ok output)
         → (more : Text) × IsEnding model pending start left (taken ++ more) given
     waits_last output pending same e = none_more (λ t. IsEnding model pending start left t given) taken
         (record {

@@ -3,7 +3,7 @@ use Rattle.std.specs.Prelude.{◌≡◌, ℕ, [], ◌∷◌, ◌++◌, replicate
 use Rattle.pf_values.specs.meaning.Canonical.{item_spelling}
 use Rattle.pf_values.specs.meaning.Text.{Text, space, zero_digit}
 use Rattle.pf_text.specs.CanonicalRuns.{silents}
-use Rattle.pf_canon.specs.declared.output.Output.{Output}
+use Rattle.pf_canon.specs.declared.output.SettledText.{SettledText}
 use Rattle.pf_canon.specs.declared.output.PendingOutput.{PendingOutput}
 use Rattle.pf_canon.specs.declared.output.PendingOutput.TheVariants as pending
 
@@ -18,11 +18,11 @@ whole_text spaces zeros count bytes trail = in_order
     (flat_map item_spelling (silents count)) bytes (replicate trail space)
 
 -- the bytes of an output
-abbrev pub output_text : Output → Text
+abbrev pub output_text : SettledText → Text
 output_text p = whole_text p.spaces p.zeros p.silents p.spelling.items p.trail
 
 -- the bytes of an output after the spaces and zeros at its front
-abbrev pub text_after_zeros : Output → Text
+abbrev pub text_after_zeros : SettledText → Text
 text_after_zeros p =
     flat_map item_spelling (silents p.silents) ++ (p.spelling.items ++ replicate p.trail space)
 

@@ -14,7 +14,7 @@ use Rattle.pf_text.specs.declared.scanner.Scanner.{Scanner}
 use Rattle.pf_text.specs.declared.scanner.Step.{Step}
 use Rattle.pf_text.specs.declared.scanner.Step.TheVariants as steps
 use Rattle.pf_text.specs.History.{IsAfter, IsLiteral, with_step}
-use Rattle.pf_canon.specs.declared.output.Output.{Output}
+use Rattle.pf_canon.specs.declared.output.SettledText.{SettledText}
 use Rattle.pf_canon.specs.declared.output.StepOutput.{StepOutput}
 use Rattle.pf_canon.specs.declared.output.StepOutput.TheVariants as outputs
 use Rattle.pf_canon.specs.declared.transducer.Transducer.{Transducer}
@@ -108,7 +108,7 @@ Settles model step byte items out held output still = IsStepOf step byte → hel
     → IsMaking model out held items []
     → IsMaking model (out ++ byte_output_text output byte) still (with_step items step) []
 
-abbrev pub SettlesDirective : Model → Specification → List Item → List Item → Text → ℕ → Output → ℕ
+abbrev pub SettlesDirective : Model → Specification → List Item → List Item → Text → ℕ → SettledText → ℕ
     → Type 0
 SettlesDirective model s items rest out held output still = held < 2 ^ 63
     → IsMaking model out held items (Directive s ∷ rest)
@@ -132,7 +132,7 @@ TakesBlock model t out block (Ok done) new = (items : List Item) × IsThrough mo
 TakesBlock model t out block (Err refusal) new = RefusesBlock model t out block refusal
 
 -- the text is whole, and with these bytes its canonical text
-abbrev pub SettlesEnd : Model → Text → List Item → Text → Result Output Refusal → Type 0
+abbrev pub SettlesEnd : Model → Text → List Item → Text → Result SettledText Refusal → Type 0
 SettlesEnd model t items out (Ok output) = Reads t items
     × IsCanonicalOf model t (out ++ output_text output)
     × (IsCanonicalText model t → out ++ output_text output ≡ t)

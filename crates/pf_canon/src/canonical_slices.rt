@@ -12,7 +12,7 @@ ghost use Rattle.pf_canon.specs.CanonicalSlices.{AreSlices, IsPlaceIn, IsTakenWh
 
 use crate::items::{put_items, run_end};
 use crate::languages::{Language, check_from};
-use crate::output::{Output, PendingOutput, settle};
+use crate::output::{PendingOutput, SettledText, settle};
 use crate::sink::ByteCount;
 use pf_text::{Canonical, FoundDirective, Percents, Refusal, Spelling, Walk, directive_at};
 use pf_values::Model;
@@ -231,12 +231,12 @@ impl<'a> CanonicalSlices<'a> {
     {
         match L::other_at(self.model, self.text, self.walk.at) {
             Ok(Some(other)) => {
-                self.output = PendingOutput::of(Output::spelled(self.held, other.spelling));
+                self.output = PendingOutput::of(SettledText::spelled(self.held, other.spelling));
                 self.held = 0;
                 self.walk.at = other.stop;
             }
             Ok(None) => {
-                self.output = PendingOutput::of(Output::spelled(self.held, Spelling::new()));
+                self.output = PendingOutput::of(SettledText::spelled(self.held, Spelling::new()));
                 self.end = Some(Ok(()));
             }
             Err(refusal) => self.end = Some(Err(refusal)),

@@ -13,7 +13,7 @@ ghost use Rattle.pf_canon.specs.SinkLaws.{gathers};
 
 use crate::faults::CopyFault;
 use crate::limits::{COPY_BLOCK, GATHERED};
-use crate::output::Output;
+use crate::output::SettledText;
 use crate::sink::Sink;
 use crate::transducer::Transducer;
 use arrayvec::ArrayVec;
@@ -241,7 +241,7 @@ fn gather_block<W: Write>(
 
 /// Gathers an output, and counts on as `put` does.
 pub(crate) fn gather_output<W: Write>(
-    output: &Output,
+    output: &SettledText,
     w: &mut Counted<W>,
     buffer: &mut WriteBuffer,
     count: u128,
@@ -263,7 +263,11 @@ pub(crate) fn gather_output<W: Write>(
 }
 
 // Writes an output, and counts on as `put` does.
-fn write_output<W: Write>(output: &Output, w: &mut Counted<W>, count: u128) -> Result<u128, u128>
+fn write_output<W: Write>(
+    output: &SettledText,
+    w: &mut Counted<W>,
+    count: u128,
+) -> Result<u128, u128>
     ensures { Puts W.contents w.old w.new (output_text output.now) count result }
 {
     let mut buffer = WriteBuffer::new();

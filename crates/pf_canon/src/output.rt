@@ -25,12 +25,12 @@ pub(crate) enum StepOutput {
     /// The byte itself, a literal one.
     Literal,
     /// These bytes.
-    Output(Output),
+    Output(SettledText),
 }
 
 /// Spaces, zeros, silent directives `%.0s`, a spelling or nothing, and spaces.
 #[derive(Drop)]
-pub(crate) struct Output {
+pub(crate) struct SettledText {
     pub(crate) spaces: u16,
     pub(crate) zeros: u16,
     pub(crate) silents: u64,
@@ -38,13 +38,13 @@ pub(crate) struct Output {
     pub(crate) trail: u16,
 }
 
-impl Output {
+impl SettledText {
     /// Silent directives, and a spelling.
     #[inline(always)]
-    pub(crate) fn spelled(count: u64, spelling: Spelling) -> Output
+    pub(crate) fn spelled(count: u64, spelling: Spelling) -> SettledText
         ensures { output_text result ≡ flat_map item_spelling (silents count) ++ spelling.items }
     {
-        Output {
+        SettledText {
             spaces: 0,
             zeros: 0,
             silents: count,
@@ -119,7 +119,7 @@ impl Output {
 /// Returns what a directive settles: its padding and, unless it is silent, the silent directives that were
 /// held, and its spelling. They are held no longer then, and a silent one is held with them.
 #[inline(always)]
-pub(crate) fn settle(model: Model, directive: &Directive, held: &mut u64) -> Output
+pub(crate) fn settle(model: Model, directive: &Directive, held: &mut u64) -> SettledText
     ensures settles { (out : Text) (items rest : List Item)
         → SettlesDirective model directive.now items rest out held.old result held.new }
     ensures few { length (output_text result) + 4 * held.new ≤ 4 * held.old + MAX_DIRECTIVE_LEN }
@@ -134,7 +134,7 @@ pub(crate) fn settle(model: Model, directive: &Directive, held: &mut u64) -> Out
     match core {
         Core::Silent => {
             *held = held.saturating_add(1);
-            Output {
+            SettledText {
                 spaces,
                 zeros,
                 silents: 0,
@@ -145,7 +145,7 @@ pub(crate) fn settle(model: Model, directive: &Directive, held: &mut u64) -> Out
         Core::Normal(normal) => {
             let silents = *held;
             *held = 0;
-            Output {
+            SettledText {
                 spaces,
                 zeros,
                 silents,
@@ -195,13 +195,13 @@ pub(crate) enum PendingOutput {
     /// A literal byte.
     Literal(u8),
     /// An output, and how many of its bytes were given.
-    Output(Output, u128),
+    Output(SettledText, u128),
 }
 
 impl PendingOutput {
     /// All of an output is pending.
     #[inline(always)]
-    pub(crate) fn of(output: Output) -> PendingOutput
+    pub(crate) fn of(output: SettledText) -> PendingOutput
         ensures { pending_text result ≡ output_text output }
     {
         PendingOutput::Output(output, 0)

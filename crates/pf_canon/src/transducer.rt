@@ -13,7 +13,7 @@ ghost use Rattle.pf_canon.specs.Transducer.{SettlesEnd, IsThrough, PutsBytes, Re
 
 use crate::items::{put_items, run_end};
 use crate::languages::Profile;
-use crate::output::{Output, StepOutput, settle};
+use crate::output::{SettledText, StepOutput, settle};
 use crate::sink::Sink;
 use pf_text::{Canonical, Percents, Refusal, Scanner, Spelling, Step, Walk};
 use pf_values::{Directive, Model};
@@ -173,7 +173,7 @@ impl Transducer {
     }
 
     #[inline(always)]
-    fn settle_directive(&mut self, directive: &Directive) -> Output
+    fn settle_directive(&mut self, directive: &Directive) -> SettledText
         ensures model { data_model_of self.new ≡ data_model_of self.old }
         ensures scanner { scanner_of self.new ≡ scanner_of self.old }
         ensures settles { (out : Text) (items rest : List Item)
@@ -188,25 +188,25 @@ impl Transducer {
 
     /// Takes the end of the text, and returns what that settles.
     #[inline(always)]
-    pub(crate) fn finish(&self) -> Result<Output, Refusal>
+    pub(crate) fn finish(&self) -> Result<SettledText, Refusal>
         ensures ended { (model : Model) (t out : Text) (items : List Item)
             → IsThrough model self.now t items out → SettlesEnd model t items out result }
         ensures few { IfOk result (λ output.
             length (output_text output) ≤ 4 * held_silents_of self.now) }
     {
         match self.scanner.finish() {
-            Ok(()) => Ok(Output::spelled(self.silents, Spelling::new())),
+            Ok(()) => Ok(SettledText::spelled(self.silents, Spelling::new())),
             Err(refusal) => Err(refusal),
         }
     }
 }
 
 // `%%`
-fn percents() -> Output
+fn percents() -> SettledText
     ensures { output_text result ≡ 37 ∷ 37 ∷ [] }
 {
     let mut spelling = Spelling::new();
     spelling.push(b'%');
     spelling.push(b'%');
-    Output::spelled(0, spelling)
+    SettledText::spelled(0, spelling)
 }

@@ -11,7 +11,7 @@ use Rattle.pf_values.specs.declared.models.Model.{Model}
 use Rattle.pf_values.specs.meaning.Text.{Text}
 use Rattle.pf_posix.specs.declared.numbered.TheConstants.{ROOM}
 use Rattle.pf_posix.specs.declared.types.WholeArgType.{WholeArgType}
-use Rattle.pf_posix.specs.declared.comparison.Comparison.{Comparison}
+use Rattle.pf_posix.specs.declared.comparison.TypeComparison.{TypeComparison}
 use Rattle.pf_posix.specs.Items.{HasArguments, WholeItem, ReadsWhole, fetched}
 use Rattle.pf_posix.specs.Types.{int_type, HaveTypes, IsFetched}
 use Rattle.pf_posix.specs.TypeNumbers.{number_of_type}
@@ -114,7 +114,7 @@ module _ (model : Model) (first second : Text) (old new old2 new2 : List WholeAr
       }
 
   -- and if one of the lists is short
-  pub compared_few : (found : Comparison) → found.difference ≡ result → found.second_count ≡ second_count → min count second_count ≤ length new
+  pub compared_few : (found : TypeComparison) → found.difference ≡ result → found.second_count ≡ second_count → min count second_count ≤ length new
       → IsListComparison model first second found
   compared_few found e n few =
       record {
@@ -145,7 +145,7 @@ few_of_counts model first second count second_count h few types others a b = eli
   | inr short ↦ inl short
 ]
 
-pub counted : (model : Model) (first second : Text) (found : Comparison) (count : ℕ) → AreCounted model first second count found.second_count
+pub counted : (model : Model) (first second : Text) (found : TypeComparison) (count : ℕ) → AreCounted model first second count found.second_count
     → ((types others : List WholeArgType) → HasArguments model first types → HasArguments model second others → IsFirstDifference types others found.difference)
     → IsListComparison model first second found
 counted model first second found count h differ =
@@ -159,7 +159,7 @@ counted model first second found count h differ =
     }
 
 -- or this is known already
-pub counted_too : (model : Model) (first second : Text) (found : Comparison) (count : ℕ) → AreCounted model first second count found.second_count
+pub counted_too : (model : Model) (first second : Text) (found : TypeComparison) (count : ℕ) → AreCounted model first second count found.second_count
     → ComparesArgumentTypes model first second found.difference → IsListComparison model first second found
 counted_too model first second found count h k =
     record {

@@ -2,7 +2,7 @@
 use Rattle.std.specs.Prelude.{◌≡◌, ℕ, suc, zero, ◌≤◌, List, [], ◌∷◌, ◌++◌, drop, length, ◌⊎◌}
 use Rattle.pf_values.specs.declared.models.Model.{Model}
 use Rattle.pf_values.specs.meaning.Text.{Text}
-use Rattle.pf_posix.specs.declared.comparison.Comparison.{Comparison}
+use Rattle.pf_posix.specs.declared.comparison.TypeComparison.{TypeComparison}
 use Rattle.pf_posix.specs.declared.numbered.TheConstants.{ROOM}
 use Rattle.pf_posix.specs.declared.types.WholeArgType.{WholeArgType}
 use Rattle.pf_posix.specs.declared.types_in_order.TypesInOrder.{TypesInOrder}
@@ -27,7 +27,7 @@ pub record AreCounted (model : Model) (first second : Text) (count second_count 
   pub second_count_is : second_count ≡ length others
 
 -- two texts are accepted, and this is where their types differ, and how many the second has
-pub record IsListComparison (model : Model) (first second : Text) (found : Comparison) : Type 0 where
+pub record IsListComparison (model : Model) (first second : Text) (found : TypeComparison) : Type 0 where
   pub types : List WholeArgType
   pub others : List WholeArgType
   pub first_accepted : HasArguments model first types

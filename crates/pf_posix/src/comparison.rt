@@ -52,14 +52,14 @@ pub fn fits_fewer(model: Model, first: &[u8], second: &[u8]) -> Result<Option<u6
 
 /// How the types of two formats compare.
 #[derive(Clone, Copy)]
-pub(crate) struct Comparison {
+pub(crate) struct TypeComparison {
     /// The first index at which they differ.
     pub(crate) difference: Option<u64>,
     /// How many the second format has.
     pub(crate) second_count: u64,
 }
 
-impl Comparison {
+impl TypeComparison {
     // The first index at which the second format has a type that the first doesn't have there.
     #[inline(always)]
     fn excess(self) -> Option<u64>
@@ -80,7 +80,7 @@ impl Comparison {
 
 // Compares two formats: by lists of their types, unless both have more than `FEW`.
 #[inline(always)]
-fn compared(model: Model, first: &[u8], second: &[u8]) -> Result<Comparison, (Side, Refusal)>
+fn compared(model: Model, first: &[u8], second: &[u8]) -> Result<TypeComparison, (Side, Refusal)>
     ensures { MatchResult result (IsListComparison model first.now second.now)
         (FaultForFits model first.now second.now) }
 {
@@ -94,7 +94,7 @@ fn compared(model: Model, first: &[u8], second: &[u8]) -> Result<Comparison, (Si
                 if count.min(second_count) > FEW as u64 {
                     return of_many(model, first, second, count, second_count);
                 }
-                Ok(Comparison {
+                Ok(TypeComparison {
                     difference: difference(&types, count, &others, second_count),
                     second_count,
                 })
@@ -125,19 +125,19 @@ fn of_many(
     second: &[u8],
     count: u64,
     second_count: u64,
-) -> Result<Comparison, (Side, Refusal)>
+) -> Result<TypeComparison, (Side, Refusal)>
     requires { AreCounted model first.now second.now count second_count }
     ensures { MatchResult result (IsListComparison model first.now second.now)
         (FaultForFits model first.now second.now) }
 {
     if count.min(second_count) > ROOM as u64 {
-        return Ok(Comparison {
+        return Ok(TypeComparison {
             difference: difference_in_order(model, first, second, count, second_count),
             second_count,
         });
     }
     match by_tables(model, first, second) {
-        Ok(difference) => Ok(Comparison {
+        Ok(difference) => Ok(TypeComparison {
             difference,
             second_count,
         }),

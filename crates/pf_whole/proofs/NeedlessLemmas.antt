@@ -28,7 +28,7 @@ use Rattle.pf_posix.specs.Stretches.{Stretches, Before, Last, ReadsStretches}
 use Rattle.pf_posix.proofs.Narrowed.{narrowed, reads_stretches}
 use Rattle.pf_posix.proofs.ReadOnce.{pushed_or, stretched}
 use Rattle.pf_posix.proofs.SpecificationsOnce.{HasParts, is_defined, no_reason, parts_of}
-use Rattle.pf_whole.specs.declared.needless.Question.{Question}
+use Rattle.pf_whole.specs.declared.needless.NeedlessQuestion.{NeedlessQuestion}
 use Rattle.pf_whole.specs.declared.parts.Part.{Part}
 use Rattle.pf_whole.specs.declared.parts.Part.TheVariants.{Flag, Width, Precision, Modifier}
 use Rattle.pf_whole.specs.declared.parts.PartSet.{PartSet}
@@ -227,7 +227,7 @@ with_either : (set : PartSet) (part other : Part) → has_part (with_part set pa
 with_either set part other e = grind arith
 
 -- what is found when one part more is asked of
-module _ (question : Question) (asked each : PartSet) (part : Part) (h : AreFound question asked each) where
+module _ (question : NeedlessQuestion) (asked each : PartSet) (part : Part) (h : AreFound question asked each) where
   -- a part that isn't there, or has an effect
   pub found_same : (IsTrue (has_part question.given part) → HaveNoEffect question.model (parts_of_opaque question.directive) (only part) → ⊥)
       → AreFound question (with_part asked part) each
@@ -262,7 +262,7 @@ no_part : (part : Part) → has_part no_parts part ≢ true
 no_part part e = grind arith
 
 -- before any is asked of
-pub found_none : (question : Question) → AreFound question no_parts no_parts
+pub found_none : (question : NeedlessQuestion) → AreFound question no_parts no_parts
 found_none question part = (λ has. absurd (no_part part has), λ all. absurd (no_part part all.0))
 
 -- no parts have no effect

@@ -7,7 +7,8 @@ use Rattle.pf_compare.specs.declared.comparisons.Comparison.{Comparison}
 use Rattle.pf_compare.specs.declared.comparisons.Verdict.{Verdict}
 use Rattle.pf_compare.specs.declared.comparisons.Verdict.TheVariants as compared
 use Rattle.pf_whole.specs.Answers.{IsWholeComparisonOf}
-use Rattle.pf_whole.specs.Comparisons.{ProfileCompares, whole_verdict}
+use Rattle.pf_whole.specs.Comparisons.{whole_verdict}
+use Rattle.pf_whole.specs.Laws.{ProfileCompares}
 use Rattle.pf_whole.proofs.OneVerdict.{one_verdict}
 use Rattle.pf_whole.proofs.ProfileVerdicts.{profile_same, profile_shown, profile_types}
 

@@ -7,14 +7,13 @@ use Rattle.pf_values.specs.meaning.Arguments.{Argument}
 use Rattle.pf_values.specs.meaning.Items.{HasItems, Item, Reads, types}
 use Rattle.pf_values.specs.meaning.Printing.{PrintAlike}
 use Rattle.pf_values.specs.meaning.Text.{Text}
-use Rattle.pf_compare.specs.declared.comparisons.Comparison.{Comparison}
 use Rattle.pf_compare.specs.declared.comparisons.Difference.{Difference}
 use Rattle.pf_compare.specs.declared.comparisons.Difference.TheVariants as differences
 use Rattle.pf_compare.specs.declared.witnesses.Probe.{Probe}
 use Rattle.pf_compare.specs.declared.comparisons.Verdict.{Verdict}
 use Rattle.pf_compare.specs.declared.comparisons.Verdict.TheVariants as compared
 use Rattle.pf_compare.specs.declared.owned_args.OwnedArg.{OwnedArg}
-use Rattle.pf_compare.specs.Answers.{IsComparisonOf, IsDifferenceOf, IsProbeOf, PrintTheSame, PrintUnlike, renderings_of}
+use Rattle.pf_compare.specs.Answers.{IsDifferenceOf, IsProbeOf, PrintTheSame, PrintUnlike, renderings_of}
 use Rattle.pf_compare.specs.Witnesses.{AreArgumentsOf, AreNeutral, DifferBy}
 use Rattle.pf_compare.specs.Owned.{argument_of_owned, type_of_owned}
 use Rattle.pf_posix.specs.declared.types.WholeArgType.{WholeArgType}
@@ -70,13 +69,6 @@ abbrev pub whole_verdict : Verdict → answers.WholeVerdict
 whole_verdict compared.Same = answers.Same
 whole_verdict (compared.Types index) = answers.TypesDiffer index
 whole_verdict (compared.Args args) = answers.Different (shown_as (map Some args.items))
-
--- two formats that compare in the profile compare in the whole language in the same way and in no other, with the
--- same arguments
-abbrev pub ProfileCompares : Model → Type 0
-ProfileCompares model = (t u : Text) (comparison : Comparison) → IsComparisonOf model t u comparison
-    → IsWholeComparisonOf model t u (whole_verdict comparison.verdict)
-    × ((other : answers.WholeVerdict) → IsWholeComparisonOf model t u other → other ≡ whole_verdict comparison.verdict)
 
 -- two formats of the profile are compared
 abbrev pub IsProfileVerdict : Model → Text → Text → WholeVerdict → ℕ → Type 0

@@ -5,11 +5,16 @@ use Rattle.pf_values.specs.meaning.Canonical.{IsCanonicalOf}
 use Rattle.pf_values.specs.meaning.Items.{IsAccepted}
 use Rattle.pf_values.specs.meaning.Printing.{AreEquivalent, PrintAlike}
 use Rattle.pf_values.specs.meaning.Text.{Text}
+use Rattle.pf_compare.specs.declared.comparisons.Comparison.{Comparison}
+use Rattle.pf_compare.specs.Answers.{IsComparisonOf}
 use Rattle.pf_posix.specs.declared.types.WholeArgType.{WholeArgType}
 use Rattle.pf_posix.specs.Items.{HasArguments}
 use Rattle.pf_posix.specs.Laws.{ComparesBeginning}
 use Rattle.pf_posix.specs.Opaque.{OpaqueErrno, OpaqueSpecification}
 use Rattle.pf_posix.specs.Stretches.{Stretches, Last, Before, ReadsStretches, whole_types}
+use Rattle.pf_whole.specs.Answers as answers
+use Rattle.pf_whole.specs.Answers.{IsWholeComparisonOf}
+use Rattle.pf_whole.specs.Comparisons.{whole_verdict}
 use Rattle.pf_whole.specs.meaning.NormalSpellings.{normal_spelling}
 use Rattle.pf_whole.specs.meaning.Traces.{AreWholeAlike, Call, Calls, Ends, HasTrace, Trace, placed_calls}
 use Rattle.pf_whole.specs.meaning.WholeArguments.{WholeArgument, HasWholeTypes}
@@ -129,3 +134,10 @@ TracesSuffice model = (t u : Text) (a b : Stretches) → ReadsStretches t a → 
 abbrev pub AlikeShareErrno : Model → Type 0
 AlikeShareErrno model = (t u : Text) (a b : Stretches) → ReadsStretches t a → ReadsStretches u b → AreWholeAlike model t u
     → (HasNoErrno a ↔ HasNoErrno b)
+
+-- two formats that compare in the profile compare in the whole language in the same way and in no other, with the
+-- same arguments
+abbrev pub ProfileCompares : Model → Type 0
+ProfileCompares model = (t u : Text) (comparison : Comparison) → IsComparisonOf model t u comparison
+    → IsWholeComparisonOf model t u (whole_verdict comparison.verdict)
+    × ((other : answers.WholeVerdict) → IsWholeComparisonOf model t u other → other ≡ whole_verdict comparison.verdict)

@@ -7,7 +7,7 @@ use Rattle.pf_posix.specs.OpaqueParts.{parts_of_opaque}
 use Rattle.pf_posix.specs.Specifications.{WholeSpecification}
 use Rattle.pf_posix.specs.Spelling.{SpellsWhole}
 use Rattle.pf_whole.specs.declared.needless.NeedlessParts.{NeedlessParts}
-use Rattle.pf_whole.specs.declared.needless.Question.{Question}
+use Rattle.pf_whole.specs.declared.needless.NeedlessQuestion.{NeedlessQuestion}
 use Rattle.pf_whole.specs.declared.parts.Part.{Part}
 use Rattle.pf_whole.specs.declared.parts.PartSet.{PartSet}
 use Rattle.pf_whole.specs.Parts.{all_parts, given_parts, has_part, no_parts, only, with_part, without}
@@ -43,13 +43,13 @@ pub record AreNeedless (model : Model) (s : WholeSpecification) (found : Needles
 -- The rest is about how the code asks. No public contract names it.
 
 -- a question about a specification that some text is
-pub record IsPartQuestion (question : Question) : Type 0 where
+pub record IsPartQuestion (question : NeedlessQuestion) : Type 0 where
   pub text : Text
   pub spelled : IsWholeReadAs text (Specification (parts_of_opaque question.directive))
   pub given : question.given ≡ given_parts (parts_of_opaque question.directive)
 
 -- of these parts, those that the specification has and that have no effect are found
-abbrev pub AreFound : Question → PartSet → PartSet → Type 0
+abbrev pub AreFound : NeedlessQuestion → PartSet → PartSet → Type 0
 AreFound question asked each = (part : Part) → IsTrue (has_part each part)
     ↔ (IsTrue (has_part asked part) × IsTrue (has_part question.given part)
     × HaveNoEffect question.model (parts_of_opaque question.directive) (only part))

@@ -4,11 +4,10 @@ ghost use Rattle.pf_values.specs.declared.models.Model.{Model};
 ghost use Rattle.pf_posix.specs.Specifications.{WholeSpecification};
 ghost use Rattle.pf_values.specs.meaning.Text.{Text};
 ghost use Rattle.pf_whole.specs.Answers.{AgreeingIsTogether, CallsGiveShape, IsWholeCanonicalFor, OneVerdict, TellingIsApart};
-ghost use Rattle.pf_whole.specs.Comparisons.{ProfileCompares};
 ghost use Rattle.pf_whole.specs.Needless.{AreNeedless};
 ghost use Rattle.pf_whole.specs.declared.needless.NeedlessParts.{NeedlessParts};
 ghost use Rattle.pf_whole.specs.meaning.WholeHeadline.{WholeHeadline};
-ghost use Rattle.pf_whole.specs.Laws.{AlikeCallTheSame, AlikeIsCorresponding, CanonicalIsAlike, AlikeHaveOneCanonical, OneCanonicalIsAlike, ProfileCoincides, AlikePrintAlike, AlikeShareErrno, ServeFewer, TracesOnce, TracesSuffice};
+ghost use Rattle.pf_whole.specs.Laws.{AlikeCallTheSame, AlikeIsCorresponding, CanonicalIsAlike, AlikeHaveOneCanonical, OneCanonicalIsAlike, ProfileCoincides, ProfileCompares, AlikePrintAlike, AlikeShareErrno, ServeFewer, TracesOnce, TracesSuffice};
 
 /// Proves that stretches and what is between them have exactly one trace for each list of arguments of
 /// their types.

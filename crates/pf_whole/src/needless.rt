@@ -29,7 +29,7 @@ pub struct NeedlessParts {
 
 // A question about a directive that has these parts.
 #[derive(Clone, Copy)]
-struct Question {
+struct NeedlessQuestion {
     model: Model,
     directive: OpaqueDirective,
     given: PartSet,
@@ -51,7 +51,7 @@ pub fn needless_parts(model: Model, directive: OpaqueDirective) -> NeedlessParts
             together: given,
         };
     }
-    let question = Question {
+    let question = NeedlessQuestion {
         model,
         directive,
         given,
@@ -64,7 +64,7 @@ pub fn needless_parts(model: Model, directive: OpaqueDirective) -> NeedlessParts
     }
 }
 
-impl Question {
+impl NeedlessQuestion {
     // The parts that have no effect.
     fn each(&self) -> PartSet
         requires { IsPartQuestion self.now }

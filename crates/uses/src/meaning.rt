@@ -45,6 +45,19 @@ pub fn are_equivalent_by_second(
     Some(one && two)
 }
 
+/// Returns whether two formats are equivalent; if they are, there is a text that each of them is equivalent to. `None` if
+/// one of them is rejected.
+pub fn share_a_text(model: Model, first: &[u8], second: &[u8]) -> Option<bool>
+    ensures { IfSome result (λ same. IsTrue same → (t : Text) × AreEquivalent model first.now t
+        × AreEquivalent model second.now t) }
+{
+    sameness();
+    match same_text(model, first, second) {
+        Ok(same) => Some(same),
+        Err(_) => None,
+    }
+}
+
 /// Returns whether `new` may replace `old`, by their canonical texts. True only if both take the
 /// same types and print the same bytes for all arguments. False for a rejected format, and if out of
 /// memory.

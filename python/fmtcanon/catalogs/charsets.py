@@ -9,7 +9,8 @@ from typing import Callable, Optional
 # Names that the codecs of Python know under the meaning that iconv gives them.
 CODECS = re.compile(
     r"ASCII|US-ASCII|ANSI_X3\.4-1968|ISO[-_]?8859-(?:[1-9]|1[0-6])|LATIN-?1|KOI8-[RTU]|(?:CP|WINDOWS-)125[0-8]"
-    r"|CP(?:437|85[0257]|86[0-6]|874|932|949|950)|GB2312|GBK|GB18030|BIG5(?:-HKSCS)?|EUC-(?:JP|KR)|SHIFT[-_]JIS|JOHAB|TIS-620",
+    r"|CP(?:437|85[0257]|86[0-6]|874|932|949|950)|GB2312|GBK|GB18030|BIG5(?:-HKSCS)?|EUC-(?:JP|KR)|SHIFT[-_]JIS|JOHAB"
+    r"|TIS-620",
     re.IGNORECASE,
 )
 UTF_8 = re.compile(r"UTF-?8", re.IGNORECASE)

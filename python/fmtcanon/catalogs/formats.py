@@ -172,7 +172,8 @@ def only_stars(item: Item) -> Optional[bytes]:
     """
     if item.has_length:
         return None
-    # `f` has all flags, and needs no length modifier; the flag I does nothing. A number is only there for that of a `*`.
+    # `f` has all flags, and needs no length modifier; the flag I does nothing. A number is only there for that of a
+    # `*`.
     inner = item.inner.replace(b"I", b"-") + b"f"
     found = next(filter(None, map(specification_alone, [b"%" + inner, b"%1$" + inner])), None)
     if found is None:

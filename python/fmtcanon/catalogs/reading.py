@@ -5,8 +5,7 @@ import struct
 from typing import Dict, Iterator, List, NamedTuple, Optional, Tuple
 
 from .charsets import Charset, Unknown, charset_named
-from .entries import BOUNDARY, ENTRY, FORM, MARKS, text_of
-from .tokens import BadCatalog, Scanner, Token, unquoted
+from .tokens import BadCatalog, Token, tokens, unquoted
 
 MAGIC = {b"\xde\x12\x04\x95": "<", b"\x95\x04\x12\xde": ">"}
 # Such a file has strings that depend on the machine, with the number of them here.
@@ -81,11 +80,10 @@ class Catalog:
 
 
 class PoReader:
-    """Builds messages from a .po file: from entries of the common shape, and from the tokens of all others."""
+    """Builds messages of the tokens of a .po file."""
 
     def __init__(self, charset: Optional[Charset]) -> None:
         self.charset = charset
-        self.scanner = Scanner(b"")
         self.flags: List[str] = []
         self.is_fuzzy = False
         # The last keyword, with its form and the text of the strings after it, if there are any.
@@ -99,63 +97,17 @@ class PoReader:
 
     def read(self, text: bytes) -> Iterator[Message]:
         """Yields each message as soon as the next one begins."""
-        self.scanner = Scanner(text)
-        while True:
-            message = self.entry()
+        for token in tokens(text):
+            message = self.take(token)
             if message is not None:
                 yield message
-                continue
-            token = self.scanner.token()
-            while token is not None:
-                yield from self.take(token)
-                if self.is_complete(token):
-                    break
-                token = self.scanner.token()
-            self.finish_keyword()
-            yield from self.finish_message()
-            if token is None:
-                return
+        self.finish_keyword()
+        message = self.finish_message()
+        if message is not None:
+            yield message
 
-    def is_complete(self, token: Token) -> bool:
-        """Returns whether the message ends with its last token."""
-        if token.kind != "string" or self.keyword != b"msgstr":
-            return False
-        return BOUNDARY.match(self.scanner.text, self.scanner.at) is not None
-
-    def entry(self) -> Optional[Message]:
-        """Returns the next message if it is of the common shape, and None for any other, which its tokens tell."""
-        scanner = self.scanner
-        found = ENTRY.match(scanner.text, scanner.at)
-        if found is None or not self.is_plain(found["texts"]):
-            return None
-        given = FORM.findall(found["forms"]) if found["forms"] else [(b"0", found["msgstr"])]
-        forms = {int(number): text_of(strings) for number, strings in given}
-        msgid, *others = [text_of(found[it]) for it in ("msgid", "plural", "msgctxt") if found[it] is not None]
-        texts = {number: text for number, text in forms.items() if text is not None}
-        if msgid is None or None in others or len(texts) < len(given):
-            return None
-        for comment in MARKS.findall(found["comments"]):
-            self.comment(comment)
-        scanner.move(found.start("forms" if found["forms"] else "one"))
-        message = self.begun(scanner.line, found["msgctxt"] is not None)
-        message.column = scanner.column
-        message.msgid, message.plural, message.forms = msgid, others[0] if found["forms"] else None, texts
-        scanner.move(found.end())
-        return message
-
-    def begun(self, line: int, has_context: bool) -> Message:
-        """Returns a new message, with the flags of the comments before it."""
-        message = Message(line, self.flags, has_context)
-        message.is_fuzzy = self.is_fuzzy
-        self.flags, self.is_fuzzy = [], False
-        return message
-
-    def is_plain(self, text: bytes) -> bool:
-        """Returns whether all bytes of a text are of the charset."""
-        return text.isascii() or self.charset is None or self.charset.bad_byte(text) is None
-
-    def take(self, token: Token) -> Iterator[Message]:
-        """Takes the next token, and yields the message that ends before it, if one does."""
+    def take(self, token: Token) -> Optional[Message]:
+        """Takes the next token, and returns the message that ends before it, if one does."""
         if token.kind == "comment":
             self.comment(token.text)
         elif token.kind == "string":
@@ -167,7 +119,8 @@ class PoReader:
             self.begin_form(token)
         else:
             self.finish_keyword()
-            yield from self.begin_keyword(token)
+            return self.begin_keyword(token)
+        return None
 
     def comment(self, text: bytes) -> None:
         # A message that is commented out takes its flags with it.
@@ -189,16 +142,19 @@ class PoReader:
             raise BadCatalog(token.line, "the number of a form is too large")
         self.form = int(digits or b"0")
 
-    def begin_keyword(self, token: Token) -> Iterator[Message]:
-        keyword, line = token.text, token.line
+    def begin_keyword(self, token: Token) -> Optional[Message]:
+        """Begins what a keyword names, and returns the message that ends before it, if one does."""
+        keyword, line, ended = token.text, token.line, None
         self.keyword, self.form, self.text, self.line, self.column = keyword, None, None, line, token.column
         if keyword in (b"domain", b"msgctxt", b"msgid"):
-            yield from self.finish_message()
+            ended = self.finish_message()
         elif self.message is None:
             raise BadCatalog(line, f"{keyword.decode()} comes before msgid")
         if keyword == b"msgid":
-            self.message = self.begun(line, self.has_context)
+            self.message = Message(line, self.flags, self.has_context)
+            self.message.is_fuzzy, self.flags, self.is_fuzzy = self.is_fuzzy, [], False
         self.has_context = keyword == b"msgctxt"
+        return ended
 
     def finish_keyword(self) -> None:
         keyword, self.keyword = self.keyword, None
@@ -226,13 +182,13 @@ class PoReader:
                 message.line, message.column = self.line, self.column
             message.forms[self.form or 0] = text
 
-    def finish_message(self) -> Iterator[Message]:
+    def finish_message(self) -> Optional[Message]:
         message, self.message = self.message, None
         if message is not None:
             if not message.forms:
                 raise BadCatalog(message.line, "the message has no msgstr")
             message.bad_bytes, self.bad_bytes = self.bad_bytes, []
-            yield message
+        return message
 
 
 def charset_of(header: bytes) -> Charset:

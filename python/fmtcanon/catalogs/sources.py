@@ -7,7 +7,7 @@ from itertools import accumulate
 from typing import Iterator, List, NamedTuple, Optional, Tuple
 
 from ..frame.excerpts import Excerpt, literal_excerpt
-from .tokens import ESCAPE, BadCatalog, Scanner, Token, unquoted
+from .tokens import ESCAPE, BadCatalog, Token, tokens, unquoted
 
 # How many lines before a translation its message begins at most, and how many bytes after that are read.
 LINES, BYTES = 1_000, 100_000
@@ -29,8 +29,8 @@ class Mark(NamedTuple):
 
 
 class CatalogString(NamedTuple):
-    """A string of a catalog in UTF-8: its source without quotes, with its offset; the name of the text that it is in, and
-    that text, with how many bytes come before the string.
+    """A string of a catalog in UTF-8: its source without quotes, with its offset; the name of the text that it is in,
+    and that text, with how many bytes come before the string.
     """
 
     source: bytes
@@ -121,16 +121,14 @@ def ends_of(string: bytes) -> List[int]:
 
 def tokens_of(text: bytes) -> Iterator[Tuple[str, Token]]:
     """Yields the strings in a part of a catalog, each with the name of its text, such as `msgstr[1]`."""
-    scanner, current = Scanner(text), ""
-    token = scanner.token()
-    while token is not None:
+    current = ""
+    for token in tokens(text):
         if token.kind == "keyword":
             current = token.text.decode()
         elif token.kind == "form":
             current += "[" + token.text.strip(b"[] \t").decode() + "]"
         elif token.kind == "string":
             yield current, token
-        token = scanner.token()
 
 
 def strings_of(text: bytes, name: str) -> List[Token]:

@@ -4,20 +4,20 @@ In the text, a byte that isn't of the file's charset is a byte that isn't UTF-8.
 """
 
 import re
-from typing import Dict, NamedTuple, Optional
+from typing import Dict, Iterator, NamedTuple, Optional
 
 from .charsets import Charset
 
 # A comment goes to the end of its line. A string is found by the pattern for its parts.
-SPACE = re.compile(rb"\s*")
 TOKEN = re.compile(
-    rb"(?P<comment>#[^\n]*)"
+    rb"\s*(?:(?P<comment>#[^\n]*)"
     rb'|(?P<string>")'
     rb"|(?P<keyword>domain|msgctxt|msgid_plural|msgid|msgstr)\b"
-    rb"|(?P<form>\[\s*[0-9]+\s*\])"
+    rb"|(?P<form>\[\s*[0-9]+\s*\])|\Z)"
 )
+SPACE = re.compile(rb"\s*")
 # Some parts of a string. Without a bound on their number, a match would keep a state for each.
-PARTS = re.compile(rb'(?:[^"\\\n]+|\\[^\n]){1,1000}')
+PARTS = re.compile(rb'[^"\\\n]*(?:\\[^\n][^"\\\n]*){0,1000}')
 ESCAPE = re.compile(rb"\\(?:([0-7]{1,3})|x([0-9A-Fa-f]+)|(.))", re.DOTALL)
 # An escape that may be of a number above 127.
 HIGH = re.compile(rb"\\(?:[2-7][0-7][0-7]|x)")
@@ -42,55 +42,39 @@ class Token(NamedTuple):
     column: int
 
 
-class Scanner:
-    """Goes over the text of a file, and knows the line that it has come to."""
-
-    def __init__(self, text: bytes) -> None:
-        self.text = text
-        self.at = 0
-        self.line = 1
-        # Where the line begins.
-        self.begin = 0
-
-    @property
-    def column(self) -> int:
-        return self.at - self.begin + 1
-
-    def move(self, at: int) -> None:
-        """Goes on to an offset."""
-        lines = self.text.count(b"\n", self.at, at)
-        if lines:
-            self.line += lines
-            self.begin = self.text.rfind(b"\n", self.at, at) + 1
-        self.at = at
-
-    def token(self) -> Optional[Token]:
-        """Returns the next token, after white space, or None at the end of the text."""
-        self.move(SPACE.match(self.text, self.at).end())  # type: ignore[union-attr]
-        if self.at == len(self.text):
-            return None
-        match = TOKEN.match(self.text, self.at)
+def tokens(text: bytes) -> Iterator[Token]:
+    """Yields the tokens of the text of a file. Raises `BadCatalog` for what isn't one."""
+    # Up to where lines are counted, and where the last one begins.
+    counted, line, begin, end = 0, 1, 0, 0
+    while True:
+        match = TOKEN.match(text, end)
         if match is None:
-            raise BadCatalog(self.line, "it is not a keyword, string or comment")
-        kind, end = str(match.lastgroup), match.end()
+            at = SPACE.match(text, end).end()  # type: ignore[union-attr]
+            raise BadCatalog(line + text.count(b"\n", counted, at), "it is not a keyword, string or comment")
+        kind, end = match.lastgroup, match.end()
+        if kind is None:
+            return
+        start = match.start(kind)
+        lines = text.count(b"\n", counted, start)
+        if lines:
+            line, begin = line + lines, text.rfind(b"\n", counted, start) + 1
+        counted, found = start, match[kind]
         if kind == "string":
-            end = end_of_string(self.text, end, self.line) + 1
-        text = self.text[match.end() : end - 1] if kind == "string" else match.group()
-        found = Token(kind, text, self.line, self.column)
-        self.move(end)
-        return found
+            quote = end
+            end = end_of_string(text, quote, line) + 1
+            found = text[quote : end - 1]
+        yield Token(kind, found, line, start - begin + 1)
 
 
 def end_of_string(text: bytes, at: int, line: int) -> int:
     """Returns the offset of the quote that closes a string."""
     while True:
-        match = PARTS.match(text, at)
-        if match is None:
-            break
-        at = match.end()
-    if text[at : at + 1] != b'"':
-        raise BadCatalog(line, "a string is not closed in its line")
-    return at
+        end = PARTS.match(text, at).end()  # type: ignore[union-attr]
+        if text[end : end + 1] == b'"':
+            return end
+        if end == at or text[end : end + 1] != b"\\":
+            raise BadCatalog(line, "a string is not closed in its line")
+        at = end
 
 
 def unquoted(string: bytes, charset: Optional[Charset], line: int) -> bytes:

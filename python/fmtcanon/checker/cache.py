@@ -184,8 +184,8 @@ class Cache:
         return None
 
     def is_as_it_was(self, job: Job, was: Read, units: Sequence[ReadUnit], is_asked: bool = False) -> bool:
-        """Returns whether units have the files of the short text, which didn't change; and if compilers are asked for that
-        again, whether it is the same.
+        """Returns whether units have the files of the short text, which didn't change; and if compilers are asked for
+        that again, whether it is the same.
         """
         if [it.files for it in units] != [it.files for it in was.units] or not was.is_still():
             return False
@@ -265,8 +265,8 @@ def short_text(command: CompileCommand, source: bytes) -> bytes:
 
 
 def read_unit(job: Job, command: CompileCommand, is_asked: bool = False) -> ReadUnit:
-    """Returns what a file is by one of its commands, in the short form if only that is asked. Raises Left if the compiler
-    can't preprocess it.
+    """Returns what a file is by one of its commands, in the short form if only that is asked. Raises Left if the
+    compiler can't preprocess it.
     """
     one = command_with(command, job.question.settings)
     source = original(command.file).source if job.source is None else job.source
@@ -275,8 +275,8 @@ def read_unit(job: Job, command: CompileCommand, is_asked: bool = False) -> Read
 
 
 def asked_in(job: Job) -> Tuple[Any, ...]:
-    """Returns what is asked about the formats of a file: also of functions of other files that hand theirs on. Where they
-    do isn't said by the answer.
+    """Returns what is asked about the formats of a file: also of functions of other files that hand theirs on. Where
+    they do isn't said by the answer.
     """
     found = sorted((key, [it[:2] for it in listed]) for key, listed in job.question.settings.found.items())
     return [it.name for it in job.question.models], list(job.question.added), found

@@ -18,13 +18,14 @@ Lines = Tuple[int, int]
 MERGE_BASE = "..."
 # All lines of a file.
 WHOLE = [(1, sys.maxsize)]
-# What may be a directive that gives lines other numbers, in a text without spliced lines, and a splice. A comment may be
-# before it and in it; what it hides isn't looked at.
+# What may be a directive that gives lines other numbers, in a text without spliced lines, and a splice. A comment may
+# be before it and in it; what it hides isn't looked at.
 LINE_DIRECTIVE = re.compile(
     rb"^(?:[^\n]*\*/)?[ \t\v\f]*(?:#|%:|\?\?=)[ \t\v\f]*(?:line(?![\w$])|\d|/\*)", re.MULTILINE
 )
 SPLICE = re.compile(rb"(?:\\|\?\?/)[ \t\v\f\r]*\n")
-# How many pairs of equal lines are looked at. A line that comes too often for that says nothing about where a change is.
+# How many pairs of equal lines are looked at. A line that comes too often for that says nothing about where a change
+# is.
 PAIRS = 200_000
 
 
@@ -64,8 +65,8 @@ class GitChange:
         return any(first <= end and start <= last for start, end in self.lines.get(path, ()))
 
     def part_of(self, answer: Answer) -> Answer:
-        """Returns what an answer has in lines that changed, with the fixes for that: all of it if a file that changed, or
-        that is included and did, may give lines other numbers.
+        """Returns what an answer has in lines that changed, with the fixes for that: all of it if a file that changed,
+        or that is included and did, may give lines other numbers.
         """
         is_all = not self.renumbered.isdisjoint({answer.file, *answer.included})
         found = {key: it for key, it in answer.found.items() if is_all or self.has(it)}
@@ -95,8 +96,8 @@ def changed_lines(old: bytes, new: bytes) -> Iterator[Lines]:
 
 
 def change_of(options: Any) -> GitChange:
-    """Returns the change that the options ask about: from a revision, or from where HEAD left it, to the work tree or to
-    what is staged.
+    """Returns the change that the options ask about: from a revision, or from where HEAD left it, to the work tree or
+    to what is staged.
     """
     git, revision = Git(), options.git
     if os.path.lexists(revision) and not git.has(revision):

@@ -13,7 +13,7 @@ from ..fitting.checking import Answer, Found, Job, Question, answer
 from ..fitting.fixing import WRONG
 from ..fitting.reporting import COMPOSED, RANK, RULES, SIGN, UNREAD, shown_file, with_source, with_wrapper
 from ..fitting.unit import Settings
-from ..frame.command_line import MODELS, USAGE, status_of
+from ..frame.command_line import MODELS, USAGE, counted, status_of
 from ..frame.findings import ERROR, Finding, Printer, by_place, leveled
 from ..frame.interrupting import temporary_folder
 from ..frame.output import complain
@@ -26,8 +26,8 @@ from .options import NAME, is_writing, parsed
 from .wrapping import Search, Wrapped
 
 
-# From how many calls on the last line names a function that isn't known, with the option for it; and how many it names in
-# any case if they get this many times the formats that were judged.
+# From how many calls on the last line names a function that isn't known, with the option for it; and how many it names
+# in any case if they get this many times the formats that were judged.
 NAMED_FROM, LEAST_NAMED, TIMES = 10, 3, 4
 # What is counted of each file.
 COUNTS = ("files", "formats", "arguments", "unread_calls", "abroad")
@@ -43,8 +43,8 @@ def question_of(options: Any, folder: str) -> Question:
 
 
 def each_once(answers: Iterable[Answer]) -> Iterator[Answer]:
-    """Yields answers without what an earlier one has, as what is found in a header, in several units; and at the end, of
-    each header, what its macros have in all of them.
+    """Yields answers without what an earlier one has, as what is found in a header, in several units; and at the end,
+    of each header, what its macros have in all of them.
     """
     seen: Set[str] = set()
     in_headers: Dict[str, Dict[str, Found]] = {}
@@ -65,7 +65,12 @@ def each_once(answers: Iterable[Answer]) -> Iterator[Answer]:
 
 
 def found_in(
-    files: Files, question: Question, change: Optional[GitChange], options: Any, cache: Optional[Cache], printer: Printer
+    files: Files,
+    question: Question,
+    change: Optional[GitChange],
+    options: Any,
+    cache: Optional[Cache],
+    printer: Printer,
 ) -> Tuple[Iterable[Answer], Wrapped]:
     """Returns what is found in the files that are judged, and the functions of other files that this depends on. If not
     all files are judged, others are searched only for functions that the judged ones call.
@@ -104,10 +109,6 @@ def with_wrappers(answer: Answer, wrappers: Wrappers) -> Answer:
     return answer._replace(found=found)
 
 
-def counted(count: int, word: str) -> str:
-    return f"{count} {word if count == 1 else word + 's'}"
-
-
 def summary(counts: Counter[str], others: Counter[str], taking: FrozenSet[str] = frozenset()) -> str:
     """Returns what is said at the end: how much was judged and wasn't, and what was found. It names the functions that
     aren't known and get many formats, or the most if hardly anything was judged.
@@ -119,7 +120,8 @@ def summary(counts: Counter[str], others: Counter[str], taking: FrozenSet[str] =
         parts.append(f"{counts['known']} in the baseline")
     if counts["unread_calls"]:
         calls = counted(counts["unread_calls"], "call")
-        parts.append(f"{calls} with {'a format that wasn' if counts['unread_calls'] == 1 else 'formats that weren'}'t read")
+        formats = "a format that wasn't" if counts["unread_calls"] == 1 else "formats that weren't"
+        parts.append(f"{calls} with {formats} read")
     if counts["abroad"]:
         where = "on 64-bit Windows alone, in files with headers that it lacks (--model llp64)"
         parts.append(f"{counts['abroad']} more {where}")
@@ -132,8 +134,8 @@ def summary(counts: Counter[str], others: Counter[str], taking: FrozenSet[str] =
 
 
 def named(what: str, others: Counter[str], least: int, option: str) -> List[str]:
-    """Returns what is said of functions: those that are called often, or the most called of all, by their names, and how
-    many others there are.
+    """Returns what is said of functions: those that are called often, or the most called of all, by their names, and
+    how many others there are.
     """
     listed = sorted(others.items(), key=lambda it: (-it[1], it[0]))
     shown = [it for at, it in enumerate(listed) if it[1] >= NAMED_FROM or at < least]

@@ -23,7 +23,8 @@ on all of them.
 Each file is preprocessed by its own compiler, for 64-bit Unix. In that text, the types of the C library get those of \
 each platform, and libclang (the package python3-clang) parses it for that platform, whose headers are not needed.
 
-FILE is a file or a folder, whose C and C++ files are all read. Without one, all files of the compile commands in -p are read."""
+FILE is a file or a folder, whose C and C++ files are all read. Without one, all files of the compile commands in -p \
+are read."""
 EPILOG = f"""\
 Examples:
   fmtcanon-check src/*.c
@@ -33,8 +34,9 @@ Examples:
 
 Functions of the C library's printf family, as its headers declare them, and those with the attribute \
 format(printf, m, n) are known; and those that hand their format and their further arguments on to a function that \
-prints as vprintf does, in any file of the compile commands, or else of the folders of the files. Integers are compared by size, rank and sign; other arguments must have the type that \
-the directive takes. Arguments are counted from 1, as in %1$d.
+prints as vprintf does, in any file of the compile commands, or else of the folders of the files. Integers are \
+compared by size, rank and sign; other arguments must have the type that the directive takes. Arguments are counted \
+from 1, as in %1$d.
 
 Calls whose formats can't be read are counted in the last line. It names the other variadic functions that get ten \
 literals with % or more, with the option --function for each.

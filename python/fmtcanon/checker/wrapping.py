@@ -27,7 +27,8 @@ from .cache import DAMAGED, Cache, read_unit
 MAY_DEFINE = re.compile(r"va_(?:list|start)|VA_START")
 POINTER = re.compile(r"\(\s*\*[^()]*\)\s*\([^;{}]*(?:\.\.\.|va_list)|typedef[^;{}]*\.\.\.")
 # After the name of a function that a text defines: its parameters, what macros say of it, and its body.
-BODY = re.compile(r"\s*\)?\s*\((?:[^(){};]|\((?:[^(){};]|\([^(){};]*\))*\))*\)(?:[^;{}()=]|\((?:[^(){};]|\([^(){};]*\))*\))*\{")
+BRACKETS = r"\((?:[^(){};]|\([^(){};]*\))*\)"
+BODY = re.compile(rf"\s*\)?\s*\((?:[^(){{}};]|{BRACKETS})*\)(?:[^;{{}}()=]|{BRACKETS})*\{{")
 # Functions of the C library that pointers are given: without those whose names are variables more often, as `error`.
 LOGGING = ("syslog", "vsyslog", "warnx", "vwarnx", "errx", "verrx")
 GIVEN = frozenset(it for it in KNOWN if it.endswith("printf") or it in LOGGING)
@@ -82,8 +83,8 @@ class Search:
             found = [path for path, text in rest if has_value(text, values) or has_target(text, targets)]
 
     def search_for(self, keys: Iterable[str]) -> None:
-        """Searches the files that define the functions with these keys, and those that they hand their formats on to; all
-        files if one is a pointer, which any may give a function.
+        """Searches the files that define the functions with these keys, and those that they hand their formats on to;
+        all files if one is a pointer, which any may give a function.
         """
         waiting: Set[str] = set(keys)
         seen: Set[str] = set()

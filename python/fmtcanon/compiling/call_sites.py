@@ -6,7 +6,7 @@ import re
 from typing import AbstractSet, Iterable, Iterator, List, Sequence, Set, Tuple
 
 from ..source.known import BUILT_IN_PREFIX, KNOWN
-from .retargeting import SPACE
+from .line_markers import SPACE
 
 # Bytes above ASCII are in names alone.
 LETTER, BYTE = r"[A-Za-z_$\x80-\xff]", r"[\w$\x80-\xff]"

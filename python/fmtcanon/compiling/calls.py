@@ -3,7 +3,6 @@ format, and the types of the arguments after promotion.
 """
 
 import collections
-import functools
 import os
 import re
 from typing import Any, Counter, Dict, List, NamedTuple, Optional, Sequence, Set, Tuple
@@ -11,7 +10,7 @@ from typing import Any, Counter, Dict, List, NamedTuple, Optional, Sequence, Set
 from .. import encode_literal
 from ..kinds import Type
 from ..models import Model
-from ..source.files import bytes_of
+from ..source.files import known_bytes, lines_in
 from ..source.known import Shape
 from .call_sites import call_sites, names_in
 from .closure import Candidate, own_among, without_defined
@@ -26,8 +25,8 @@ from .pointers import given_in, has_pointers, names_among
 from .retargeting import TYPE_MARK, own_spans
 from .wrappers import candidates_in
 
-# Types that gcc has, and no directive takes: each is another than what it is in memory. Where there is no `__int128`, no
-# compiler reads what names it.
+# Types that gcc has, and no directive takes: each is another than what it is in memory. Where there is no `__int128`,
+# no compiler reads what names it.
 OF_GCC = [f"-D{it}=__float128" for it in ("_Float32", "_Float32x", "_Float64", "_Float64x")]
 WITHOUT_INT128 = ["-D__int128=long long", "-D__int128_t=long long", "-D__uint128_t=unsigned long long"]
 TEMPLATE = re.compile(r"template\s*<")
@@ -97,8 +96,8 @@ class Calls(Parsed):
         self.names: Set[str] = set()
 
     def candidates_among(self, functions: Functions, spans: Sequence[Tuple[int, int]]) -> List[Candidate]:
-        """Returns the functions that may hand their formats on in parts of the text, and what pointers to such are given
-        there.
+        """Returns the functions that may hand their formats on in parts of the text, and what pointers to such are
+        given there.
         """
         # What is known of other units may mean other functions.
         callees = Callees(self, functions._replace(found={}))
@@ -111,9 +110,6 @@ class Calls(Parsed):
 
 class FormatCalls(Calls):
     """The calls with formats in the text of a unit on a platform, by their keys."""
-
-    # Where what is looked at begins in the text.
-    first = 0
 
     def __init__(
         self,
@@ -130,7 +126,8 @@ class FormatCalls(Calls):
         self.found: Dict[Key, Call] = {}
         # How many calls of a function are in a line.
         self.in_line: Counter[Tuple[int, str]] = collections.Counter()
-        # The calls whose format isn't read; and how many there are of functions that aren't known, by the options for these.
+        # The calls whose format isn't read; and how many there are of functions that aren't known, by the options for
+        # these.
         self.unread: List[Call] = []
         self.others: Counter[str] = collections.Counter()
         # Whether all calls are the same elsewhere, if their arguments have the types there that are declared.
@@ -154,8 +151,7 @@ class FormatCalls(Calls):
             self.own = own_among(self.candidates, functions.found)
             self.known = {**without_defined(functions.found, self.candidates), **self.own}
             self.callees = Callees(self, functions._replace(found=self.known))
-        after = [(max(start, self.first), end) for start, end in spans if end > self.first]
-        self.note_calls(functions, plain, after)
+        self.note_calls(functions, plain, spans)
 
     def note_calls(self, functions: Functions, plain: str, spans: Sequence[Tuple[int, int]]) -> None:
         """Notes the calls in these parts of the text."""
@@ -168,8 +164,8 @@ class FormatCalls(Calls):
             self.note(self.cursor_at(at))
 
     def walk(self) -> None:
-        """Notes the calls outside of system headers. What libclang finds at a place in a template may be what was made of
-        that for some types.
+        """Notes the calls outside of system headers. What libclang finds at a place in a template may be what was made
+        of that for some types.
         """
         for cursor in self.unit.cursor.get_children():
             if not is_system(cursor):
@@ -232,7 +228,7 @@ class FormatCalls(Calls):
         if next_file == file:
             path = self.file_of(end)
             given = self.source if path == self.command.file else None
-            lines = lines_of(path) if given is None else given.split(b"\n")
+            lines = lines_in(known_bytes(path) if given is None else given)
             source = lines[next_line - 1] if next_line <= len(lines) else b""
             return max(line, next_line - int(len(found["space"]) <= len(source) - len(source.lstrip())))
         # A header is between.
@@ -261,11 +257,6 @@ class FormatCalls(Calls):
     def has_percent(self, argument: Any) -> bool:
         """Returns whether an argument is a literal with a percent sign."""
         return any("%" in it.source for it in self.formats.read(argument) if it)
-
-
-@functools.lru_cache(maxsize=64)
-def lines_of(path: str) -> List[bytes]:
-    return bytes_of(path).split(b"\n")
 
 
 def words_for(platform: Platform) -> Sequence[str]:

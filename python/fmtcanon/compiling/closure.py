@@ -10,16 +10,17 @@ from .functions import Wrapper
 
 # What speaks against a function or a pointer: that it takes arguments of its list by itself, or something else.
 TAKING, LEFT = "taking", "left"
-# What tells a function or a pointer apart: a key, and how many parameters it has. Several programs may have one of a name.
+# What tells a function or a pointer apart: a key, and how many parameters it has. Several programs may have one of a
+# name.
 Id = Tuple[str, int]
 # By the key of each, those that it may be.
 Wrappers = Mapping[str, Tuple[Wrapper, ...]]
 
 
 class Handing(NamedTuple):
-    """That a function hands its list on to another, or that a pointer is given one: the keys of the other, none if it is
-    known to print; how many parameters it has, and for each parameter that may be the format, its index here and there;
-    its name, and where. A pointer that is given what isn't known yet has no such pairs.
+    """That a function hands its list on to another, or that a pointer is given one: the keys of the other, none if it
+    is known to print; how many parameters it has, and for each parameter that may be the format, its index here and
+    there; its name, and where. A pointer that is given what isn't known yet has no such pairs.
     """
 
     to: Tuple[str, ...]
@@ -32,8 +33,8 @@ class Handing(NamedTuple):
 
 class Candidate(NamedTuple):
     """The definition of a function that may hand its format on, or what a pointer is given: its key, its name, how many
-    parameters it has, whether more arguments follow, what it hands on, the parameters that go elsewhere, what else speaks
-    against it, and whether it is a pointer.
+    parameters it has, whether more arguments follow, what it hands on, the parameters that go elsewhere, what else
+    speaks against it, and whether it is a pointer.
     """
 
     key: str
@@ -61,8 +62,8 @@ def needs_of(candidates: Iterable[Candidate]) -> Set[str]:
 
 
 def wrappers_among(definitions: Iterable[Candidate], known: Wrappers = {}) -> Dict[str, Tuple[Wrapper, ...]]:
-    """Returns which of these functions and pointers print as `printf` or `vprintf` does. One isn't known if a definition
-    that it may have isn't.
+    """Returns which of these functions and pointers print as `printf` or `vprintf` does. One isn't known if a
+    definition that it may have isn't.
     """
     found: Dict[str, Tuple[Wrapper, ...]] = {}
     for (key, _), wrapper in Closure(definitions, known).printing().items():

@@ -17,7 +17,8 @@ LANGUAGE = """
     abi-version aligned-allocation aligned-new altivec apple-kext apple-pragma-pack asm assume-sane-operator-new
     async-exceptions asynchronous-unwind-tables blocks borland-extensions builtin canonical-system-headers cf-protection
     char8_t common concepts concepts-ts constant-cfstrings constexpr coroutines coroutines-ts cx-fortran-rules
-    cx-limited-range cxx-exceptions declspec define-target-os-macros delayed-template-parsing delete-null-pointer-checks digraphs
+    cx-limited-range cxx-exceptions declspec define-target-os-macros delayed-template-parsing
+    delete-null-pointer-checks digraphs
     dollars-in-identifiers double-square-bracket-attributes dwarf2-cfi-asm enforce-eh-specs exceptions excess-precision
     ext-numeric-literals extended-identifiers fast-math finite-math-only for-scope freestanding friend-injection
     gnu-inline-asm gnu-keywords gnu-tm gnu89-inline gnuc-version handle-exceptions hosted implement-inlines
@@ -136,8 +137,8 @@ def options_of(words: Tuple[str, ...]) -> KeptOptions:
 
 
 def valued(word: str, after: str) -> Tuple[str, bool]:
-    """Returns an option that has a value as one word, and whether the value is the word after it; an empty text if it is
-    another option. Raises Left for a value that the option can't have.
+    """Returns an option that has a value as one word, and whether the value is the word after it; an empty text if it
+    is another option. Raises Left for a value that the option can't have.
     """
     for option, values in VALUED:
         found = option.match(word)

@@ -41,7 +41,8 @@ def is_declared_long(cursor: Any) -> bool:
 
 
 def is_own_variable(cursor: Any) -> bool:
-    """Returns whether an expression is a variable or a member that has the type of its declaration on every platform."""
+    """Returns whether an expression is a variable or a member that has the type of its declaration on every platform.
+    """
     found = cursor.referenced if cursor.kind.name in REFERENCES else None
     if found is None or found.kind.name not in VARIABLES:
         return False

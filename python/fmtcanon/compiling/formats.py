@@ -34,8 +34,8 @@ class Literal(NamedTuple):
 
 
 class Format(NamedTuple):
-    """What may be the format of a call: its literals together, and as the text has them; how many of the first bytes are
-    left out, as in `"x%d" + 1`; and the file and the line where it begins.
+    """What may be the format of a call: its literals together, and as the text has them; how many of the first bytes
+    are left out, as in `"x%d" + 1`; and the file and the line where it begins.
     """
 
     source: str
@@ -157,7 +157,8 @@ class Formats:
         return [] if value is None else [(pointer, sign * value)]
 
     def selected(self, cursor: Any, children: Sequence[Any]) -> Sequence[Any]:
-        """Returns the expression that `_Generic` selects by the names of types before each; none if that isn't known."""
+        """Returns the expression that `_Generic` selects by the names of types before each; none if that isn't known.
+        """
         wanted, default = type_name_of(children[0].type.get_canonical().spelling), []
         typedefs = self.typedefs_before(cursor)
         for before, child in zip(children, children[1:]):

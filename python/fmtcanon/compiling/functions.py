@@ -30,9 +30,9 @@ class Wrapper(NamedTuple):
 
 
 class Functions(NamedTuple):
-    """What is known of functions: where some have their formats, by the options, whether attributes count, those that hand
-    their formats on, by what tells them apart; whether those of a unit count that nothing else does; and the names of
-    those that a unit may call, if it was read before.
+    """What is known of functions: where some have their formats, by the options, whether attributes count, those that
+    hand their formats on, by what tells them apart; whether those of a unit count that nothing else does; and the names
+    of those that a unit may call, if it was read before.
     """
 
     given: Mapping[str, Shape] = {}
@@ -97,8 +97,8 @@ class Callees:
         return self.known[declaration.hash]
 
     def handing(self, declaration: Any, callee: Callee) -> Callee:
-        """Returns a function as one that hands its format on, or a pointer as one that is given such a function, if it is
-        one of these by its name and its parameters.
+        """Returns a function as one that hands its format on, or a pointer as one that is given such a function, if it
+        is one of these by its name and its parameters.
         """
         type = function_of(declaration.type)
         if type is None or type.kind.name != "FUNCTIONPROTO":
@@ -166,8 +166,8 @@ class Callees:
 
 
 def keys_of(declaration: Any) -> Iterator[str]:
-    """Yields what tells a function apart, or a pointer to one: the typedefs of its type, and its own name, or that of its
-    function and its index if it is a parameter.
+    """Yields what tells a function apart, or a pointer to one: the typedefs of its type, and its own name, or that of
+    its function and its index if it is a parameter.
     """
     kind = declaration.kind.name
     if kind != "FUNCTION_DECL":

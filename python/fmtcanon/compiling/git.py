@@ -20,12 +20,12 @@ from .running import started
 
 # The modes of a file, and that of a submodule.
 FILES, SUBMODULE = ("100644", "100755"), "160000"
-# It leaves the index alone, maps packs in parts, for which its memory is enough, and gets no objects from elsewhere: for
-# that it would run what a repository names.
+# It leaves the index alone, maps packs in parts, for which its memory is enough, and gets no objects from elsewhere:
+# for that it would run what a repository names.
 GIT = ["git", "-c", "core.fsmonitor=false", "-c", "core.packedGitWindowSize=32m", "-c", "core.packedGitLimit=512m"]
 ENVIRONMENT = {"GIT_OPTIONAL_LOCKS": "0", "GIT_ALLOW_PROTOCOL": "", "GIT_NO_LAZY_FETCH": "1"}
-# What git changes by itself when it checks a file out, and the attributes with which it does: the ends of lines, also if
-# this is configured for all files, and a word.
+# What git changes by itself when it checks a file out, and the attributes with which it does: the ends of lines, also
+# if this is configured for all files, and a word.
 LINE_END, IDENTITY = re.compile(rb"\r+\n"), re.compile(rb"\$Id:[^$\n]*\$")
 OF_LINE_ENDS, OF_IDENTITY, FOR_ALL = ("text", "eol", "crlf"), "ident", "core.autocrlf"
 OFF = ("", "false", "no", "off", "0")
@@ -135,7 +135,8 @@ class Git:
         return found
 
     def trees(self, revisions: Sequence[str]) -> List[str]:
-        """Returns the trees of one or two revisions, also of `A..B`, and of `A...B`, which begins at their merge base."""
+        """Returns the trees of one or two revisions, also of `A..B`, and of `A...B`, which begins at their merge base.
+        """
         if len(revisions) == 1 and ".." in revisions[0]:
             dots = "..." if "..." in revisions[0] else ".."
             revisions = [it or "HEAD" for it in revisions[0].split(dots, 1)]
@@ -186,8 +187,8 @@ class Git:
         return self.answer([f"--git-dir={own}", "rev-parse", "--verify", "--quiet", "HEAD"]) if is_there else ""
 
     def is_checked_out(self, name: str, old: bytes, new: bytes) -> bool:
-        """Returns whether a file of the work tree is what git makes of another text, by the attributes of the file. What
-        programs or charsets make of it is a change.
+        """Returns whether a file of the work tree is what git makes of another text, by the attributes of the file.
+        What programs or charsets make of it is a change.
         """
         words = ["check-attr", "-z", *OF_LINE_ENDS, OF_IDENTITY, "--", os.path.join(self.top, name)]
         fields = self.run(words).decode(errors="replace").split("\0")
@@ -212,8 +213,8 @@ class Git:
         expect: Callable[[int], None] = lambda _: None,
         is_source: Callable[[str], Any] = SOURCES.fullmatch,
     ) -> Iterator[FileChange]:
-        """Yields what changed in the sources among the files of these paths, or of all, and tells `expect` how many more
-        it may be, or fewer.
+        """Yields what changed in the sources among the files of these paths, or of all, and tells `expect` how many
+        more it may be, or fewer.
         """
         given = {os.path.realpath(it) for it in paths}
         trees = self.trees(revisions)

@@ -13,6 +13,7 @@ from ..source.known import Known, Shape
 from .compile_commands import CompileCommand
 from .left import Left
 from .libclang import cindex
+from .line_markers import SPACE
 
 # What the headers of gcc have and an older clang hasn't.
 SHIMS = [
@@ -29,9 +30,7 @@ SHIMS = [
 FLAGS = ["-undef", "-nostdinc", "-w", "-ferror-limit=0", "-fdouble-square-bracket-attributes"]
 # In an attribute, gcc's name of the language of formats, which an older clang hasn't.
 GNU_PRINTF = re.compile(
-    rb"(?<![\w$])((?:__)?format(?:__)?%(gap)b\(%(gap)b)(?:__)?gnu_printf(?:__)?(?=%(gap)b,)"
-    # White space, and line markers.
-    % {b"gap": rb"(?:\s|(?<=\n)# \d+ [^\n]*)*"}
+    rb"(?<![\w$])((?:__)?format(?:__)?%(gap)b\(%(gap)b)(?:__)?gnu_printf(?:__)?(?=%(gap)b,)" % {b"gap": SPACE.encode()}
 )
 OTHER_BYTES = re.compile(rb"[\x80-\xff]")
 LINE_MARKER = re.compile(r"(?m)^# \d+ .*")
@@ -80,16 +79,12 @@ class Parsed:
             for it in command.words
             if it.startswith(("-std=", "-m32", "-mx32", "-funsigned-char"))
         ]
+        files = [("/unit", self.text.decode())]
         try:
-            self.unit = self.translated([language, *FLAGS, *kept, *SHIMS, *words])
+            self.unit = cindex.Index.create().parse("/unit", [language, *FLAGS, *kept, *SHIMS, *words], files)
         except (cindex.LibclangError, cindex.TranslationUnitLoadError) as error:
             raise Left(f"libclang: {error}") from error
         self.file = self.unit.get_file(self.unit.spelling)
-
-    def translated(self, words: Sequence[str]) -> Any:
-        """Returns what libclang makes of the text with the words of a command."""
-        files = [("/unit", self.text.decode())]
-        return cindex.Index.create().parse("/unit", args=words, unsaved_files=files)
 
     def errors(self) -> List[str]:
         """Returns what libclang can't parse outside of the compiler's own headers."""

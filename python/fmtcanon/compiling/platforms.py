@@ -8,6 +8,7 @@ import re
 from typing import Dict, Mapping, NamedTuple, Tuple
 
 from ..models import Model
+from ..source.macros import expansion
 
 
 class Platform(NamedTuple):
@@ -26,11 +27,13 @@ class Platform(NamedTuple):
     wider: Mapping[str, str]
 
 
-# Headers of POSIX and Linux that the C library of 64-bit Windows lacks, and what a source says that is for Windows, too.
+# Headers of POSIX and Linux that the C library of 64-bit Windows lacks, and what a source says that is for Windows,
+# too.
 NOT_OF_WINDOWS = re.compile(
-    r".*/(?:(?:linux|asm|scsi|net|netinet|arpa|rpc)/.*|(?:aio|argp|byteswap|dlfcn|elf|endian|err|error|execinfo|fnmatch|fts"
-    r"|ftw|glob|grp|ifaddrs|langinfo|link|mntent|mqueue|netdb|poll|pty|pwd|regex|resolv|shadow|spawn|sysexits|syslog|termios?"
-    r"|ucontext|utmpx?|wordexp|sys/(?:epoll|inotify|ioctl|ipc|mman|mount|msg|poll|prctl|ptrace|reboot|resource|select|sem|shm"
+    r".*/(?:(?:linux|asm|scsi|net|netinet|arpa|rpc)/.*|(?:aio|argp|byteswap|dlfcn|elf|endian|err|error|execinfo"
+    r"|fnmatch|fts|ftw|glob|grp|ifaddrs|langinfo|link|mntent|mqueue|netdb|poll|pty|pwd|regex|resolv|shadow|spawn"
+    r"|sysexits|syslog|termios?|ucontext|utmpx?|wordexp"
+    r"|sys/(?:epoll|inotify|ioctl|ipc|mman|mount|msg|poll|prctl|ptrace|reboot|resource|select|sem|shm"
     r"|socket|statfs|statvfs|syscall|sysinfo|sysmacros|times|uio|un|utsname|vfs|wait|xattr))\.h)"
 )
 FOR_WINDOWS = re.compile(rb"_?WIN(?:32|64)\b|__MINGW|_MSC_VER|__CYGWIN__|windows\.h")
@@ -96,14 +99,8 @@ OF_FILES = {
 OF_TIMES = dict.fromkeys("__time_t __suseconds_t".split(), "long long")
 FILE_TYPES = {**{name[2:]: type for name, type in OF_FILES.items()}, "fpos_t": "__fpos64_t"}
 TIME_TYPES = {**FILE_TYPES, "time_t": "long long"}
-# The ends of the names of PRI macros, by the same choice.
-WIDTHS = {
-    "int": "8 16 32 LEAST8 LEAST16 LEAST32 FAST8",
-    "int64": "64 LEAST64 FAST64 MAX",
-    "size": "PTR",
-    "fast16": "FAST16",
-    "fast32": "FAST32",
-}
+# The ends of the names of PRI macros.
+ENDS = [*(how + size for how in ("", "LEAST", "FAST") for size in ("8", "16", "32", "64")), "MAX", "PTR"]
 # The beginnings of the names of constants, by the same choice; and those whose unsigned counterpart has another name.
 CONSTANTS = {
     "int64": "INT64 INT_LEAST64 INT_FAST64 INTMAX",
@@ -167,9 +164,9 @@ def types_of(choice: Choice) -> Dict[str, str]:
     return found
 
 
-def modifiers_of(choice: Choice) -> Dict[str, str]:
-    chosen = signed_of(choice)
-    return {end: MODIFIERS[chosen[key]] for key, ends in WIDTHS.items() for end in ends.split()}
+def modifiers_of(model: Model) -> Dict[str, str]:
+    """Returns the length modifiers of PRI macros by the ends of their names."""
+    return {end: (expansion(f"PRId{end}".encode(), model) or b"d")[:-1].decode() for end in ENDS}
 
 
 def constants_of(choice: Choice) -> Dict[str, str]:
@@ -195,7 +192,7 @@ def platform(
     types = {name: types[column] for names, types in OTHERS.items() for name in names.split()}
     constants = {name: values[column] for name, values in OTHER_CONSTANTS.items()}
     types, constants = {**types_of(choice), **types}, {**constants_of(choice), **constants}
-    return Platform(name, model, target, types, modifiers_of(choice), constants, members, {})
+    return Platform(name, model, target, types, modifiers_of(model), constants, members, {})
 
 
 # clang's own target for 32-bit Linux has another `wchar_t` than gcc; this one has all types as gcc has them there.

@@ -1,5 +1,5 @@
-"""What pointers to functions are given that may print as `printf` does: a member, a variable, a parameter, or all that a
-typedef names.
+"""What pointers to functions are given that may print as `printf` does: a member, a variable, a parameter, or all that
+a typedef names.
 """
 
 import re
@@ -10,8 +10,8 @@ from .call_sites import KEYWORDS, VARIADIC, beginning, declarators, is_byte
 from .closure import LEFT, Candidate, Handing
 from .formats import bare_of, is_null
 from .functions import FUNCTIONS, Callees, function_of, is_list, keys_of
+from .line_markers import SPACE
 from .parsing import CALL_EXPR, VISIT_INSIDE, Parsed
-from .retargeting import SPACE
 
 # A declaration of a pointer to a function with a list or further arguments, or a typedef of such a function.
 POINTER = re.compile(rf"\){SPACE}\((?:[^()]|\([^()]*\))*(?:\.\.\.|va_list\s*\w*){SPACE}\)")
@@ -203,7 +203,9 @@ def parameters_of(declared: Any) -> int:
 
 
 def type_of(cursor: Any) -> Any:
-    """Returns the type of a function with further arguments, or a list of them, that something is or points to, or None."""
+    """Returns the type of a function with further arguments, or a list of them, that something is or points to, or
+    None.
+    """
     type = function_of(cursor.type)
     if type is None or type.kind.name != "FUNCTIONPROTO":
         return None

@@ -1,8 +1,8 @@
 """Makes the preprocessed text of a unit another platform's.
 
-Headers of its own keep the macros of the compiler, <inttypes.h>, <stdint.h>, <limits.h> and others as names in the text.
-In `#if` such a name is 0, and in a constant it is added to the value, so that the preprocessor reads what it reads
-without these headers.
+Headers of its own keep the macros of the compiler, <inttypes.h>, <stdint.h>, <limits.h> and others as names in the
+text. In `#if` such a name is 0, and in a constant it is added to the value, so that the preprocessor reads what it
+reads without these headers.
 """
 
 import functools
@@ -12,14 +12,11 @@ from pathlib import Path
 from typing import Iterator, List, Mapping, NamedTuple, Tuple
 
 from ..models import Model
+from .line_markers import SPACE, markers
 from .platforms import COMPILED, FILE_TYPES, OF_FILES, Platform
 
-# White space and line markers.
-SPACE = r"(?:\s|(?<=\n)# \d+ [^\n]*)*"
-# The same, which stays.
+# White space and line markers, which stay.
 GAP = f"({SPACE})"
-# A line marker, and its flags: 3 is that of a system header.
-MARKER = re.compile(r'\n# \d+ ("[^"\\\n]*(?:\\.[^"\\\n]*)*")([ \d]*)(?![^\n])')
 # The flags of a marker where a system header begins.
 ENTERED = " 1 3"
 # A typedef of a name, which may be an array.
@@ -49,8 +46,8 @@ CHARACTER_SIZE = re.compile(r"size_t(\s+__ctype_get_mb_cur_max\b)")
 LETTERS = "diouxX"
 # The types that compilers have macros for, and the constants of each header.
 BUILT_IN = (
-    "size ptrdiff wchar wint intmax uintmax intptr uintptr int64 uint64 int_least64 uint_least64 int_fast16 uint_fast16 "
-    "int_fast32 uint_fast32 int_fast64 uint_fast64"
+    "size ptrdiff wchar wint intmax uintmax intptr uintptr int64 uint64 int_least64 uint_least64 int_fast16 "
+    "uint_fast16 int_fast32 uint_fast32 int_fast64 uint_fast64"
 )
 OF_HEADERS = {
     "limits.h": "LONG_MAX LONG_MIN ULONG_MAX SSIZE_MAX",
@@ -102,12 +99,6 @@ def write_headers(folder: str) -> List[str]:
     for name, text in headers():
         Path(folder, name).write_text(text, encoding="utf-8")
     return [f"-I{folder}", "-imacros", os.path.join(folder, OF_COMPILER)]
-
-
-def markers(text: str) -> List[Tuple[int, int, str, str]]:
-    """Returns where the markers of a text begin and end, their files and their flags."""
-    # A pattern that begins with plain text is found several times faster, so that of a line begins with its end.
-    return [(it.start(), it.end() - 1, it[1], it[2]) for it in MARKER.finditer("\n" + text)]
 
 
 def chunks(text: str) -> Iterator[Tuple[bool, str]]:
@@ -182,28 +173,11 @@ def declarations(platform: Platform) -> str:
     return "".join(f"typedef {platform.types[f'{it}_t']} {TYPE_MARK}{it}_t;" for it in BUILT_IN.split()) + "\n"
 
 
-class TextTraits(NamedTuple):
-    """What a text has anywhere that decides how each part of it is changed: files of 64 bits, and functions of clang."""
-
-    has_large_files: bool
-    is_of_clang: bool
-
-
-def traits_of(text: str) -> TextTraits:
-    return TextTraits(LARGE_FILES.search(text) is not None, OF_CLANG in text)
-
-
 def retargeted(text: str, platform: Platform, own: Mapping[str, str]) -> str:
     """Returns the text of a unit as it is on a platform, with the same lines, after one of declarations if it needs
     these. `own` are types of typedefs anywhere; typedefs and structs of the C library are changed in system headers
     only.
     """
-    text = retargeted_part(text, platform, own, traits_of(text))
-    return declarations(platform) + text if TYPE_MARK in text else text
-
-
-def retargeted_part(text: str, platform: Platform, own: Mapping[str, str], traits: TextTraits) -> str:
-    """Returns a part of a text, between line markers, as it is on a platform."""
     types, wider = {**platform.types, **own}, platform.wider
 
     def constant(found: "re.Match[str]") -> str:
@@ -211,16 +185,19 @@ def retargeted_part(text: str, platform: Platform, own: Mapping[str, str], trait
         return f"({found[2]}{found[3]}{number}{platform.constants[found['name']]}{found[5]})"
 
     text = PRI.sub(lambda it: f'"{platform.modifiers[it[2]]}{it[1]}"/*{macro_of(it[1], it[2])}*/', text)
-    if not traits.is_of_clang:
+    if OF_CLANG not in text:
         text = ATOMIC.sub(lambda it: f"__typeof__{it[1]}" if it[1] else "", text)
     text = SIGNED_TYPE.sub(lambda it: f"signed {platform.types[it[1]]}", CONSTANT.sub(constant, text))
-    if platform.model is Model.ILP32 and traits.has_large_files:
+    if platform.model is Model.ILP32 and LARGE_FILES.search(text):
         types, wider = {**types, **FILE_TYPES}, {**wider, **OF_FILES}
     if platform.model is not Model.LP64:
         text = BIT_FIELD.sub(r"\1", text)
     if platform.model is Model.LLP64:
         text = CHARACTER_SIZE.sub(r"int\1", text)
-    return "".join(
-        with_types(with_members(it, platform.members), types, wider) if is_system else with_types(it, own, {}) if own else it
-        for is_system, it in chunks(text)
-    )
+    parts = []
+    for is_system, part in chunks(text):
+        if is_system:
+            part = with_types(with_members(part, platform.members), types, wider)
+        parts.append(with_types(part, own, {}) if own and not is_system else part)
+    text = "".join(parts)
+    return declarations(platform) + text if TYPE_MARK in text else text

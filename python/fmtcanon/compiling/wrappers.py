@@ -1,9 +1,9 @@
-"""Which functions of a unit hand their format, and the arguments after it, on to one that prints as `vprintf` does: they
-print as `printf` does, though nothing declares that.
+"""Which functions of a unit hand their format, and the arguments after it, on to one that prints as `vprintf` does:
+they print as `printf` does, though nothing declares that.
 
 A function hands its format on if it gives the parameter as it is, or translated, and a `va_list` that begins at its own
-further arguments, or is its parameter. What speaks against it counts, too: if the list or the format goes to any other place,
-the function may have directives of its own.
+further arguments, or is its parameter. What speaks against it counts, too: if the list or the format goes to any other
+place, the function may have directives of its own.
 """
 
 import re
@@ -14,8 +14,8 @@ from ..source.known import BUILT_IN_PREFIX, GETTEXT, Shape
 from .closure import LEFT, TAKING, Candidate, Handing
 from .formats import AROUND, bare_of
 from .functions import FUNCTIONS, Callees, is_list, is_system, keys_of
+from .line_markers import SPACE
 from .parsing import Parsed
-from .retargeting import SPACE
 
 # Where a function may begin a list of its further arguments, or have a parameter that is one. Patterns that begin with
 # plain text are found several times faster.
@@ -125,7 +125,9 @@ class Reading:
         return LOOKED_AT if text.startswith(("!", "sizeof")) else use
 
     def operands(self, cursor: Any, children: Sequence[Any], use: str) -> Sequence[Used]:
-        """Returns the operands of an operator, and what becomes of them: a parameter may be replaced by its translation."""
+        """Returns the operands of an operator, and what becomes of them: a parameter may be replaced by its
+        translation.
+        """
         first, second = children
         operator = self.unit.operator_of(children)
         if operator == "=":

@@ -10,7 +10,7 @@ from ..compiling.libclang import MISSING, cindex
 from ..compiling.options import add_compiling, add_fail_on
 from ..compiling.retargeting import write_headers
 from ..formats.verdicts import PairKind
-from ..frame.command_line import MODELS, USAGE, Parser, status_of
+from ..frame.command_line import MODELS, USAGE, Parser, counted, status_of
 from ..frame.findings import ERROR, Printer, by_place
 from ..frame.interrupting import temporary_folder
 from ..frame.processes import in_order
@@ -119,11 +119,10 @@ def summary(counts: Dict[str, int]) -> str:
         if counts[it.value]
     )
     changed = sum(counts[it.value] for it in PairKind)
-    word = "format" if changed == 1 else "formats"
     came = f"{counts['came']} literals added"
     if counts["formats"]:
         came += f", with {counts['judged']} of {counts['formats']} formats judged in their calls"
-    return f"{changed} {word} changed{judged and ': '}{judged}; {came}, {counts['went']} removed"
+    return f"{counted(changed, 'format')} changed{judged and ': '}{judged}; {came}, {counts['went']} removed"
 
 
 def run(changes: Iterable[DiffReport], printer: Printer, counts: Dict[str, int], is_verbose: bool) -> int:

@@ -8,7 +8,6 @@ from ..formats.explaining import Marked, marked_parts
 from ..formats.items import errnos_of
 from ..formats.rejections import advice_on, refused_span
 from ..formats.verdicts import (
-    Library,
     PairKind,
     PairVerdict,
     Taker,
@@ -17,11 +16,14 @@ from ..formats.verdicts import (
     cut,
     narrowed,
     only_words_differ,
+    printed_by,
     shared_front,
     shown,
     shown_arguments,
     taker_of,
     telling_arguments,
+    types_of,
+    verdict_on,
 )
 from ..frame.command_line import model_names
 from ..frame.excerpts import Excerpt
@@ -82,16 +84,16 @@ def is_judged(old: Place, new: Place, functions: Mapping[bytes, Optional[int]] =
     return is_format and (old.has_specification() or new.has_specification())
 
 
-def verdict_in(library: Library, old: Place, new: Place, model: Model) -> JudgedPair:
+def verdict_in(old: Place, new: Place, model: Model) -> JudgedPair:
     (first, why), (second, why_second) = old.text(model), new.text(model)
     if first is None or second is None:
         return JudgedPair(PairVerdict(PairKind.UNJUDGED, reason=why or why_second), first, second)
     if max(len(first), len(second)) > LONG and b"$" not in first + second:
-        judged = long_verdict(library, first, second, model)
+        judged = long_verdict(first, second, model)
     else:
-        judged = JudgedPair(library.verdict(first, second, model), first, second)
+        judged = JudgedPair(verdict_on(first, second, model), first, second)
     kind, texts = judged.verdict.kind, (judged.old or b"", judged.new or b"")
-    if kind is PairKind.DIFFERENT and only_words_differ(library, *texts, model):
+    if kind is PairKind.DIFFERENT and only_words_differ(*texts, model):
         kind = PairKind.WORDS
     if kind is PairKind.REJECTED and b"%" not in first and printable(new.call.function) not in KNOWN:
         # Nothing says that it is a format.
@@ -99,37 +101,33 @@ def verdict_in(library: Library, old: Place, new: Place, model: Model) -> Judged
     return judged._replace(verdict=judged.verdict._replace(kind=kind))
 
 
-def long_verdict(library: Library, old: bytes, new: bytes, model: Model) -> JudgedPair:
+def long_verdict(old: bytes, new: bytes, model: Model) -> JudgedPair:
     """Returns the verdict on long formats, by comparing only the parts that they don't share."""
     types: List[bytes] = []
     try:
         for text in (old, new):
-            types.append(library.types(text, model))
+            types.append(types_of(text, model))
         front, back = narrowed(old, new)
     except Refused as refusal:
         kind = PairKind.REJECTED if types else PairKind.UNJUDGED
         return JudgedPair(PairVerdict(kind, reason=f"{refusal} of a long format"), old, new)
     first, second = (it[front : len(it) - back] for it in (old, new))
-    before = len(library.types(old[:front], model))
-    verdict = library.verdict(first, second, model)
+    before = len(types_of(old[:front], model))
+    verdict = verdict_on(first, second, model)
     at = shared_front(*types) if verdict.kind is PairKind.TYPES else before + verdict.at
     return JudgedPair(verdict._replace(at=at), first, second, before)
 
 
 def judge(
-    library: Library,
-    file: str,
-    pair: Pair,
-    models: Sequence[Model],
-    fail_on: Sequence[str] = FAULTS,
-    is_shown: bool = False,
+    file: str, pair: Pair, models: Sequence[Model], fail_on: Sequence[str] = FAULTS, is_shown: bool = False
 ) -> Optional[Finding]:
     """Returns the finding on a pair: that of the first data model in which more than words differ, if there is one. It
     has excerpts if it is to be shown. None if the pair isn't one of formats.
     """
     old, new = pair
-    found = {model: verdict_in(library, old, new, model) for model in models}
-    if not new.call.function and all(it.verdict.kind is PairKind.UNJUDGED and it.verdict.refusal for it in found.values()):
+    found = {model: verdict_in(old, new, model) for model in models}
+    verdicts = [it.verdict for it in found.values()]
+    if not new.call.function and all(it.kind is PairKind.UNJUDGED and it.refusal for it in verdicts):
         # A title, as "CPU% " is, that no call takes.
         return None
     kinds = {model: it.verdict.kind for model, it in found.items()}
@@ -138,7 +136,7 @@ def judge(
     kind = kinds[model]
     details = details_of(old, new, model)
     details["verdicts"] = {name: kinds[it].value for name, it in zip(model_names(models), models)}
-    wording = Wording(library, pair, found[model], model)
+    wording = Wording(pair, found[model], model)
     details.update(wording.specification())
     excerpts, help = wording.excerpts() if is_shown else ((), "")
     start, end = new.span()
@@ -191,8 +189,8 @@ def elsewhere(kinds: Dict[Model, PairKind], kind: PairKind) -> str:
 class Wording:
     """What is said of a pair by its verdict in one data model."""
 
-    def __init__(self, library: Library, pair: Pair, judged: JudgedPair, model: Model) -> None:
-        self.library, self.judged, self.model = library, judged, model
+    def __init__(self, pair: Pair, judged: JudgedPair, model: Model) -> None:
+        self.judged, self.model = judged, model
         self.old, self.new = pair
 
     def both(self) -> str:
@@ -267,8 +265,8 @@ class Wording:
 
     def example(self, old: bytes, new: bytes) -> str:
         """Returns what the two print for arguments that tell them apart."""
-        arguments = telling_arguments(self.library, old, new, self.judged.verdict.arguments, self.model)
-        first, second = (self.library.printed(it, arguments, self.model) for it in (old, new))
+        arguments = telling_arguments(old, new, self.judged.verdict.arguments, self.model)
+        first, second = (printed_by(it, arguments, self.model) for it in (old, new))
         listed = f"for {shown_arguments(arguments)}"
         if first is None or second is None or first == second:
             return f" {listed}" if arguments else ""

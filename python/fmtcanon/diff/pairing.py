@@ -12,9 +12,8 @@ import itertools
 import re
 from typing import AbstractSet, Callable, Dict, Hashable, Iterator, List, NamedTuple, Optional, Sequence, Tuple
 
-from ..formats.verdicts import shared_back, shared_front
 from ..models import Model
-from ..source.places import UNUSUAL, Place, Source, statement_ends
+from ..source.places import Place, Source
 
 # A line that has no name but `else`, and no literal, says nothing of where it is from.
 WORDS = re.compile(rb"(?!else\b)\b[A-Za-z_]\w")
@@ -24,9 +23,6 @@ ARGUMENT = re.compile(rb"[A-Za-z_]")
 TELLING = re.compile(rb"[A-Za-z]{3}")
 # How many comparisons difflib may make of two sequences, how many pairs of places are tried, and the longest texts.
 MANY, MANY_PAIRS, LONG_TEXT = 250_000, 4_000, 4_000
-# How much longer than a back that two texts share the part before it is if looking for the back takes more than
-# reading it.
-WORTH = 4
 # How alike two texts must be: less if what follows them is equal.
 ALIKE, ALIKE_IN_PLACE = 0.6, 0.4
 
@@ -131,50 +127,17 @@ def gaps(blocks: Sequence[Block], first: int, second: int) -> Iterator[Range]:
         a0, b0 = a + size, b + size
 
 
-def read_changes(old: Source, new: Source) -> None:
-    """Reads the statements of two sources from the first that changed to the last, or all if a macro changed."""
-    first, second = old.plain, new.plain
-    if old.macros != new.macros or UNUSUAL.search(first) or UNUSUAL.search(second):
-        old.read()
-        new.read()
-        return
-    front = shared_front(first, second)
-    back = shared_back(first, second, front)
-    begin = 0
-    ends = statement_ends(first)
-    end: Optional[int] = None
-    for end in ends:
-        if end > front:
-            break
-        begin = end
-    lengths, following = (len(first), len(second)), (
-        itertools.chain([] if end is None else [end], ends),
-        statement_ends(second, begin),
-    )
-    if WORTH * back < min(lengths) - front - back:
-        old.read(begin)
-        new.read(begin)
-        return
-    at = [next((it for it in one if it >= length - back), length) for one, length in zip(following, lengths)]
-    while lengths[0] - at[0] != lengths[1] - at[1]:
-        # The one that is farther from its end goes on.
-        side = int(lengths[0] - at[0] < lengths[1] - at[1])
-        at[side] = next(following[side], lengths[side])
-    old.read(begin, at[0])
-    new.read(begin, at[1])
-
-
 class Rows:
-    """The lines of what is read of a source, stripped, and the places of each. The lines of one place are one."""
+    """The lines of a source, stripped, and the places of each. The lines of one place are one."""
 
     def __init__(self, source: Source) -> None:
-        whole = source.plain[source.begin : source.end].split(b"\n")
+        whole = source.plain.split(b"\n")
         lines = [it.strip() for it in whole]
         self.source = source
         self.places: Dict[int, List[Place]] = {}
         self.starts: List[int] = []
         if source.places:
-            self.starts = starts = list(itertools.accumulate((len(it) + 1 for it in whole), initial=source.begin))
+            self.starts = starts = list(itertools.accumulate((len(it) + 1 for it in whole), initial=0))
             for place in source.places:
                 first = bisect.bisect_right(starts, place.start) - 1
                 self.places.setdefault(first, []).append(place)
@@ -196,8 +159,8 @@ class Rows:
         for place in self.places[line]:
             pieces.append(self.source.plain[done : place.start])
             done = place.end
-        end = self.source.plain.find(b"\n", done, self.source.end)
-        pieces.append(self.source.plain[done : self.source.end if end < 0 else end])
+        end = self.source.plain.find(b"\n", done)
+        pieces.append(self.source.plain[done : len(self.source.plain) if end < 0 else end])
         return b"".join(b'"'.join(pieces).split())
 
     def places_in(self, lines: Sequence[int]) -> List[Place]:
@@ -206,8 +169,7 @@ class Rows:
 
 def paired(old: Source, new: Source) -> Pairing:
     """Pairs the places of two sources."""
-    read_changes(old, new)
-    first, second = Rows(old), Rows(new)
+    first, second = Rows(old.read()), Rows(new.read())
     whole = (0, len(first.lines), 0, len(second.lines))
     a0, a1, b0, b1 = common(first.lines, second.lines, whole)
     kept = [first.telling(a0, a1), second.telling(b0, b1)]

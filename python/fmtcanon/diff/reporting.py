@@ -5,7 +5,7 @@ from typing import Iterator, Mapping, NamedTuple, Optional, Sequence
 
 from ..compiling.git import FileChange
 from ..fitting.reporting import KIND, RULES as OF_CALLS, SIZE, with_source
-from ..formats.verdicts import Library, PairKind
+from ..formats.verdicts import PairKind, types_of
 from ..frame.command_line import model_names
 from ..frame.findings import ERROR, WARNING, Finding, leveled
 from ..models import Model
@@ -34,8 +34,8 @@ class DiffReport(NamedTuple):
 
 class DiffQuestion(NamedTuple):
     """What is asked of each file: the data models, the kinds of findings that are errors, whether findings are to have
-    excerpts, the index of the format of functions that the options name, or None if they take none, and what says whether
-    calls fit.
+    excerpts, the index of the format of functions that the options name, or None if they take none, and what says
+    whether calls fit.
     """
 
     models: Sequence[Model]
@@ -83,7 +83,7 @@ class Judge:
     """Judges the places of a file."""
 
     def __init__(self, name: str, question: DiffQuestion) -> None:
-        self.name, self.question, self.library = name, question, Library()
+        self.name, self.question = name, question
         self.asked: Optional[Compiled] = None
 
     @property
@@ -99,7 +99,7 @@ class Judge:
         for pair in pairs:
             names = self.defined(pair)
             models = [Model.LP64] if names else self.question.models
-            finding = judge(self.library, self.name, pair, models, self.question.fail_on, self.question.is_shown)
+            finding = judge(self.name, pair, models, self.question.fail_on, self.question.is_shown)
             if finding and self.question.fitting and finding.kind in (PairKind.TYPES.value, PairKind.UNJUDGED.value):
                 finding = self.noted(pair, finding)
             if finding and names:
@@ -127,7 +127,7 @@ class Judge:
         texts = [it.text(Model.LP64)[0] for it in pair]
         if finding.kind == PairKind.UNJUDGED.value:
             return None if None not in texts and self.compiled.is_not_format(*pair[1].span()) else finding
-        types = [self.library.types(it or b"", Model.LP64) for it in texts]
+        types = [types_of(it or b"", Model.LP64) for it in texts]
         return self.compiled.noted(finding, types[0], types[1])
 
     def of_added(self, places: Sequence[Place]) -> Iterator[Finding]:

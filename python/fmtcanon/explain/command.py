@@ -135,8 +135,8 @@ def put_written(format: WrittenFormat, given: Sequence[str], options: Any) -> in
 
 
 def texts_of(word: str, is_literal: bool) -> Dict[Model, bytes]:
-    """Returns the bytes of a format that is given as an argument, in each data model: in literals there may be macros of
-    <inttypes.h>. Raises `BadLiteral`.
+    """Returns the bytes of a format that is given as an argument, in each data model: in literals there may be macros
+    of <inttypes.h>. Raises `BadLiteral`.
     """
     given = os.fsencode(word)
     if not is_literal:

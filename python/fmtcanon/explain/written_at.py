@@ -39,8 +39,8 @@ def format_at(word: str, model: Model) -> Tuple[WrittenFormat, List[str]]:
 
 
 def format_in_call(data: bytes, model: Model) -> Optional[Tuple[WrittenFormat, List[str]]]:
-    """Returns the format of a text that is one call, as it is pasted from a source, and the source of its arguments; None for
-    all other texts.
+    """Returns the format of a text that is one call, as it is pasted from a source, and the source of its arguments;
+    None for all other texts.
     """
     written = WrittenSource(data, model, {}) if b'"' in data else None
     formats = list(written.formats()) if written else []
@@ -62,7 +62,8 @@ def sources_of(data: bytes, written: WrittenSource, format: WrittenFormat) -> Li
 
 
 def offset_of(data: bytes, line: int, column: int) -> Optional[int]:
-    """Returns the offset of a line and a column in characters, as findings have them; None if there is no such place."""
+    """Returns the offset of a line and a column in characters, as findings have them; None if there is no such place.
+    """
     lines = data.split(b"\n")
     if not 1 <= line <= len(lines) or column < 1:
         return None

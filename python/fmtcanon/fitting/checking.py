@@ -24,7 +24,9 @@ from .unit import Settings, Unit
 
 
 class Question(NamedTuple):
-    """What is asked: the data models, the kinds of findings and of fixes that only an option adds, and how units are read."""
+    """What is asked: the data models, the kinds of findings and of fixes that only an option adds, and how units are
+    read.
+    """
 
     models: Sequence[Model]
     added: Sequence[str]
@@ -41,7 +43,8 @@ class JudgedUnit:
 
     @functools.cached_property
     def models(self) -> Sequence[Model]:
-        """The data models that are asked about, without that of 64-bit Windows among others if the unit can't be there."""
+        """The data models that are asked about, without that of 64-bit Windows among others if the unit can't be there.
+        """
         asked = self.question.models
         rest = [it for it in asked if it is not LLP64.model]
         return rest if rest and len(rest) < len(asked) and self.unit.is_abroad() else asked
@@ -264,7 +267,8 @@ def add_left(answer: Answer, question: Question, why: str) -> None:
 def add(answer: Answer, one: JudgedUnit) -> None:
     """Adds what is found in a unit."""
     unit, result, models = one.unit, one.result, one.question.models
-    abroad = {key_of(it, SIZE, one.spot_of(it)) for it in result.faults if not one.kind_of(it) and one.is_only_abroad(it)}
+    faults = (it for it in result.faults if not one.kind_of(it) and one.is_only_abroad(it))
+    abroad = {key_of(it, SIZE, one.spot_of(it)) for it in faults}
     answer.counts["abroad"] += len(abroad)
     answer.counts.update(formats=result.formats, arguments=result.arguments, unread_calls=len(unit.unread))
     answer.others.update(unit.others)

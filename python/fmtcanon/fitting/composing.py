@@ -1,5 +1,5 @@
-"""Says whether `#if` may have chosen the length modifier of a directive: it is in several literals, and none of these is a
-PRI macro that the source names next to it, or a macro of the program that `#if` chooses has both.
+"""Says whether `#if` may have chosen the length modifier of a directive: it is in several literals, and none of these
+is a PRI macro that the source names next to it, or a macro of the program that `#if` chooses has both.
 """
 
 import re

@@ -31,8 +31,8 @@ NOT_FROM_NAME = "its length modifier names a type that each platform chooses"
 def fixes_of(
     unit: Unit, faults: Sequence[Fault], where: Located, kind_of: Callable[[Fault], Optional[str]], is_any: bool = False
 ) -> Fixes:
-    """Returns the new texts of places of a unit's file, which fix the faults that have a kind: with `is_any` also where the
-    program prints something else then, since it is wrong where it is compiled.
+    """Returns the new texts of places of a unit's file, which fix the faults that have a kind: with `is_any` also where
+    the program prints something else then, since it is wrong where it is compiled.
     """
     places: Dict[int, Tuple[LiteralRun, List[Fault]]] = {}
     for fault in faults:

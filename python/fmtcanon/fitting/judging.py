@@ -127,8 +127,8 @@ class RefusedFormat(NamedTuple):
 
 
 class ErrnoFormat(NamedTuple):
-    """A format with `%m` of a function whose `%m` some platform's C library lacks: its call, its text, and where that is.
-    What the functions of a program do with it is theirs.
+    """A format with `%m` of a function whose `%m` some platform's C library lacks: its call, its text, and where that
+    is. What the functions of a program do with it is theirs.
     """
 
     call: Call
@@ -247,7 +247,8 @@ def faults_of(key: Key, calls: Sequence[Call], number: int, texts: Sequence[Plat
         wanted = tuple(type for _, _, type in found)
         text, spans = texts[0]
         # The argument of h and hh is converted to a type of this sign.
-        is_short = argument == spans[index].argument and SpelledSpecification(spans[index], text).modifier in ("h", "hh")
+        span = spans[index]
+        is_short = argument == span.argument and SpelledSpecification(span, text).modifier in ("h", "hh")
         fits = tuple(
             Fit.EQUAL if fit is Fit.SIGN and (is_short or had.is_unsigned) else fit
             for fit, had in zip(map(fit_of, wanted, given, [it.model for it in PLATFORMS]), given)

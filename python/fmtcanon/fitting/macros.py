@@ -6,13 +6,13 @@ from typing import Dict, Iterator, List, Mapping, NamedTuple, Optional, Sequence
 
 from .. import source_offset
 from ..compiling.calls import Call
-from ..compiling.line_markers import path_in
-from ..source.files import bytes_of
+from ..compiling.line_markers import parts_in, path_in
+from ..source.files import known_bytes, lines_in
 from ..source.tokens import NAME
 from .judging import Fault
 
-# A line marker with the flags after it, and a definition, in preprocessed text with its definitions.
-LINE = re.compile(rb'^# (\d+) "((?:[^"\\\n]|\\.)*)"([ \d]*)$|^#define (\w+)(.*)$', re.MULTILINE)
+# A definition in preprocessed text.
+DEFINED = re.compile(rb"^#define (\w+)(.*)$", re.MULTILINE)
 SYSTEM = b"3"
 # A definition in a source, up to the end of the last line that a backslash continues.
 DEFINITION = re.compile(rb"[ \t]*#[ \t]*define[ \t]+(\w+)(?:[^\\\n]|\\[\s\S])*")
@@ -20,8 +20,8 @@ WORD = re.compile(NAME)
 
 
 class Definition(NamedTuple):
-    """A definition of a macro: its name, the file and the line where it is, what the macro expands to, and whether it is
-    in a header of the system.
+    """A definition of a macro: its name, the file and the line where it is, what the macro expands to, and whether it
+    is in a header of the system.
     """
 
     name: str
@@ -33,14 +33,11 @@ class Definition(NamedTuple):
 
 def definitions_in(text: bytes, folder: str) -> Iterator[Definition]:
     """Yields the definitions of macros in preprocessed text."""
-    file, is_system, line, counted = "", True, 1, 0
-    for found in LINE.finditer(text):
-        if found[1] is not None:
-            file, is_system = path_in(found[2], folder), SYSTEM in found[3].split()
-            line, counted = int(found[1]), found.end() + 1
-        elif file:
-            at = line + text.count(b"\n", counted, found.start())
-            yield Definition(found[4].decode(), file, at, found[5], is_system)
+    for marker, start, end in parts_in(text):
+        file, is_system = path_in(marker[2], folder), SYSTEM in marker[3].split()
+        for found in DEFINED.finditer(text, start, end):
+            line = int(marker[1]) + text.count(b"\n", start + 1, found.start())
+            yield Definition(found[1].decode(), file, line, found[2], is_system)
 
 
 class Macros:
@@ -68,16 +65,16 @@ class Macros:
         return found.pop() if len(found) == 1 else None
 
     def lines_with(self, fault: Fault) -> Iterator[Tuple[str, int, int]]:
-        """Yields the lines of all definitions, also of the system, that may have the directive's literal: a file, the first
-        and the last.
+        """Yields the lines of all definitions, also of the system, that may have the directive's literal: a file, the
+        first and the last.
         """
         literal = fault.tokens[0][0].source.encode()
         listed = self.reached(self.lines_of(fault.call), self.all)
-        yield from ((it.file, it.line, last_line(source_of(it.file), it.line)) for it in listed if literal in it.body)
+        yield from ((it.file, it.line, last_line(known_bytes(it.file), it.line)) for it in listed if literal in it.body)
 
     def lines_of(self, call: Call) -> bytes:
         """Returns the lines of a call."""
-        source = self.texts[call.file] if call.file in self.texts else source_of(call.file)
+        source = self.texts[call.file] if call.file in self.texts else known_bytes(call.file)
         return b"\n".join(lines_in(source)[call.line - 1 : call.last])
 
     @staticmethod
@@ -90,14 +87,6 @@ class Macros:
             listed = [it for name in waiting & known.keys() for it in known[name]]
             yield from listed
             waiting = {it.decode(errors="replace") for one in listed for it in WORD.findall(one.body)} - found
-
-
-source_of = functools.lru_cache(maxsize=16)(bytes_of)
-
-
-@functools.lru_cache(maxsize=16)
-def lines_in(source: bytes) -> List[bytes]:
-    return source.split(b"\n")
 
 
 @functools.lru_cache(maxsize=256)
@@ -125,7 +114,7 @@ def span_of(definition: Definition, fault: Fault) -> Optional[Tuple[bytes, int, 
     """Returns the source that has a definition, where the directive of a fault is in it, and its last byte, if that is
     in the same literal; None if the definition hasn't its literal once.
     """
-    source = source_of(definition.file)
+    source = known_bytes(definition.file)
     found = DEFINITION.match(source, line_start(source, definition.line))
     literal, begin, end = fault.tokens[0]
     plain = literal.source.encode()

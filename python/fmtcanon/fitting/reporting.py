@@ -1,6 +1,5 @@
 """Says in words what is found, and where."""
 
-import functools
 import os
 import re
 from dataclasses import replace
@@ -11,12 +10,12 @@ from ..compiling.calls import Call
 from ..compiling.closure import Wrappers
 from ..compiling.platforms import LLP64, PLATFORMS
 from ..formats.rejections import advice_on, refused_span
-from ..frame.command_line import model_names
+from ..frame.command_line import counted, model_names
 from ..frame.excerpts import Excerpt, literal_excerpt
 from ..frame.findings import ERROR, NOTE, WARNING, Finding
 from ..kinds import TYPE_NAMES, Type
 from ..models import Model
-from ..source.files import bytes_of
+from ..source.files import known_bytes, lines_in
 from ..source.places import column_of
 from .judging import MISSING, ORDER, SIGNED, ErrnoFormat, Fault, Fit, RefusedFormat
 from .locating import Located
@@ -63,8 +62,8 @@ HEADERS.update(size_t="stddef.h", wint_t="wchar.h")
 
 
 class Spot(NamedTuple):
-    """A position: a file, a line, and a column, an end and the offsets of both if they are known; and the macro in whose
-    definition it is.
+    """A position: a file, a line, and a column, an end and the offsets of both if they are known; and the macro in
+    whose definition it is.
     """
 
     file: str
@@ -243,8 +242,9 @@ def with_wrapper(finding: Finding, known: Wrappers) -> Finding:
 
 
 def fix_of(fault: Fault, spot: Spot) -> Optional[Dict[str, Any]]:
-    """Returns what may be written instead of the bytes of the source from `start` to `end`, for JSON: `cast` is what the
-    argument needs, and `include` a header. `verified` is whether --fix writes it. None if no place or text is known.
+    """Returns what may be written instead of the bytes of the source from `start` to `end`, for JSON: `cast` is what
+    the argument needs, and `include` a header. `verified` is whether --fix writes it. None if no place or text is
+    known.
     """
     written = proposal(fault)
     if written is None or spot.offsets is None:
@@ -290,7 +290,9 @@ def refused_finding(refused: RefusedFormat, models: Sequence[Model]) -> Finding:
 
 
 def errno_finding(found: ErrnoFormat, others: int = 0) -> Finding:
-    """Returns the finding of a format with `%m`, on the platform whose C library lacks it, and how many others the file has."""
+    """Returns the finding of a format with `%m`, on the platform whose C library lacks it, and how many others the file
+    has.
+    """
     call, text, at = found
     more = f", and in {others} more of the file" if others else ""
     message = f"%m in a format of {call.function}{more}: missing on {TITLES[LLP64.name]}; use %s and strerror(errno)"
@@ -301,12 +303,13 @@ def errno_finding(found: ErrnoFormat, others: int = 0) -> Finding:
 def surplus_finding(call: Call, count: int, text: bytes, models: Sequence[Model]) -> Finding:
     """Returns the finding of a call with arguments that its format doesn't take, and how many."""
     takes = "its format takes" if len(call.formats) == 1 else "any of its formats takes"
-    what = "1 argument" if count == 1 else f"{count} arguments"
-    return finding_of_call(call, SURPLUS, f"{what} of {call.function} more than {takes}", models, text)
+    message = f"{counted(count, 'argument')} of {call.function} more than {takes}"
+    return finding_of_call(call, SURPLUS, message, models, text)
 
 
 def undefined_finding(call: Call, text: bytes, span: Specification, models: Sequence[Model]) -> Finding:
-    """Returns the finding of a directive that C leaves undefined, and that is judged as the C library of GNU takes it."""
+    """Returns the finding of a directive that C leaves undefined, and that is judged as the C library of GNU takes it.
+    """
     directive = text[span.start : span.end].decode(errors="backslashreplace")
     written = text[span.start : span.modifier_at] + b"ll" + text[span.end - 1 : span.end]
     message = (
@@ -345,18 +348,13 @@ def skipped(path: str, why: str, models: Sequence[Model], level: str) -> Finding
 
 def with_source(finding: Finding) -> Finding:
     """Returns a finding with its line of the source, if that is known, and what is meant in it."""
-    lines = lines_of(finding.file)[finding.line - 1 : finding.line] if finding.column else []
+    source = known_bytes(finding.file)
+    lines = lines_in(source)[finding.line - 1 : finding.line] if source else []
     if not lines or finding.column is None:
         return finding
+    line = lines[0].decode(errors="surrogateescape").rstrip("\r")
     is_short = finding.end is not None and finding.end[0] == finding.line
     end = finding.end[1] if finding.end and is_short else finding.column + 1
     written = finding.details.get("proposal")
     words = f"use {written}" if written and finding.kind != FIXED else ""
-    return replace(finding, excerpts=(Excerpt(str(finding.line), lines[0], finding.column - 1, end - 1, words),))
-
-
-@functools.lru_cache(maxsize=8)
-def lines_of(file: str) -> List[str]:
-    """Returns the lines of a file; none if it can't be read."""
-    data = bytes_of(file)
-    return [it.rstrip("\r") for it in data.decode(errors="surrogateescape").split("\n")] if data else []
+    return replace(finding, excerpts=(Excerpt(str(finding.line), line, finding.column - 1, end - 1, words),))

@@ -3,19 +3,17 @@
 import dataclasses
 import functools
 import os
-from concurrent.futures import ThreadPoolExecutor
 from typing import AbstractSet, Dict, List, Mapping, NamedTuple, Optional, Sequence, Set, Tuple
 
 from ..compiling.calls import Call, Calls, FormatCalls, Key, words_for
 from ..compiling.closure import Candidate, Wrappers, is_local, needs_of
 from ..compiling.compile_commands import CompileCommand
 from ..compiling.functions import Functions
-from ..compiling.kept import KeptUnits
 from ..compiling.left import Left
-from ..compiling.line_markers import files_in
+from ..compiling.line_markers import files_in, markers
 from ..compiling.parsing import as_utf8
 from ..compiling.platforms import COMPILED, FOR_WINDOWS, NOT_OF_WINDOWS, PLATFORMS, Platform
-from ..compiling.retargeting import ENTERED, markers, own_spans, retargeted
+from ..compiling.retargeting import ENTERED, own_spans, retargeted
 from ..compiling.stand_ins import Original, original
 from ..compiling.targets import model_in
 from ..models import Model
@@ -26,15 +24,13 @@ from .alike import calls_on_all
 
 class Settings(NamedTuple):
     """The words that find the headers of this command; functions that take formats, by the options; typedefs, each with
-    the one whose type it has; the folder with these headers; units that are kept while their sources are edited; and the
-    functions of all units that hand their formats on.
+    the one whose type it has; the folder with these headers; and the functions of all units that hand their formats on.
     """
 
     words: Sequence[str]
     functions: Mapping[str, Shape]
     types: Mapping[str, str]
     folder: str = ""
-    kept: Optional[KeptUnits] = None
     found: Wrappers = {}
 
 
@@ -68,7 +64,8 @@ class Unit:
         first = self.parsed(read, COMPILED)
         self.known, self.wrappers, self.callable = first.known, first.own, first.callable
         known = None if settings.types else calls_on_all(first, read)
-        self.calls: List[Dict[Key, Call]] = known or [it.found for it in self.parsed_everywhere(read, first)]
+        others = [it for it in PLATFORMS if it is not COMPILED]
+        self.calls: List[Dict[Key, Call]] = known or [first.found, *(self.parsed(read, it).found for it in others)]
         errors = first.errors()
         self.why_left: Optional[str] = errors[0] if errors else None
         self.unread, self.others = first.unread, first.others
@@ -83,20 +80,21 @@ class Unit:
         return (self.called | used | needs_of([*own, *local])) - {it.key for it in own}
 
     def is_abroad(self) -> bool:
-        """Returns whether the unit can't be one of 64-bit Windows: it includes a header that this lacks, and nothing in its
-        sources is for Windows.
+        """Returns whether the unit can't be one of 64-bit Windows: it includes a header that this lacks, and nothing in
+        its sources is for Windows.
         """
         own, is_lacking, was_own = {self.command.file}, False, True
         for _, _, name, flags in markers(self.read):
-            file = os.path.join(self.command.folder, name.strip('"'))
+            file = os.path.join(self.command.folder, name)
             is_lacking = is_lacking or (was_own and flags.startswith(ENTERED) and bool(NOT_OF_WINDOWS.fullmatch(file)))
             was_own = "3" not in flags
             own.update([file] if was_own else ())
         return is_lacking and not any(map(is_for_windows, own))
 
     def text(self, source: bytes) -> str:
-        """Returns what the compiler's preprocessor makes of a source of the file. Each is given in the same way: a header
-        that a file finds in its own folder and by -I is read twice if the compiler reads the file, and otherwise once.
+        """Returns what the compiler's preprocessor makes of a source of the file. Each is given in the same way: a
+        header that a file finds in its own folder and by -I is read twice if the compiler reads the file, and otherwise
+        once.
         """
         return as_utf8(self.command.preprocessed(source)).decode()
 
@@ -115,19 +113,9 @@ class Unit:
             self.defined = bytes(self.command.run(self.source, "-E", "-dD", "-w").stdout)
         return self.defined
 
-    def parsed_everywhere(self, text: str, first: FormatCalls) -> List[FormatCalls]:
-        """Returns the calls in a text on each platform: on one they are known. Those that are kept are parsed together."""
-        others = [it for it in PLATFORMS if it is not COMPILED]
-        if self.settings.kept is None:
-            return [first, *(self.parsed(text, it) for it in others)]
-        with ThreadPoolExecutor(len(others)) as pool:
-            return [first, *pool.map(lambda it: self.parsed(text, it), others)]
-
     def parsed(self, text: str, platform: Platform) -> FormatCalls:
         own = {name: platform.types.get(type, type) for name, type in self.settings.types.items()}
         functions = Functions(self.settings.functions, found=self.known, callable=self.callable)
-        if self.settings.kept is not None:
-            return self.settings.kept.calls(self.command, text, platform, own, functions)
         return FormatCalls(self.command, retargeted(text, platform, own).encode(), platform, functions, self.source)
 
     def marked(self, text: str) -> Dict[Key, Call]:

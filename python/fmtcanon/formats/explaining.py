@@ -15,10 +15,18 @@ from ..specification import SpelledSpecification
 from ..words import WORDS
 from .items import errnos_of
 from .rejections import instead_of, sentence
-from .verdicts import Argument, Library, PairKind, PairVerdict, taker_of, telling_arguments
+from .verdicts import (
+    Argument,
+    PairKind,
+    PairVerdict,
+    canonical,
+    compared,
+    compared_by_types,
+    printed_by,
+    taker_of,
+    telling_arguments,
+)
 from .wording import meaning, meaning_of_number, notes, type_name
-
-LIBRARY = Library()
 
 
 class ExplainedDirective(NamedTuple):
@@ -75,9 +83,9 @@ class Difference(NamedTuple):
 class Rejection(NamedTuple):
     """Why a format is rejected: the refusal, what it means, and what to write instead of the specification.
 
-    `side` is the index of the format, if two are compared. `types` is how their types compare, if numbered arguments are
-    all that is rejected. `at` is the offset of the byte as the program prints it: in string literals, if the format was
-    given as these.
+    `side` is the index of the format, if two are compared. `types` is how their types compare, if numbered arguments
+    are all that is rejected. `at` is the offset of the byte as the program prints it: in string literals, if the format
+    was given as these.
     """
 
     format: bytes
@@ -127,15 +135,15 @@ def effects_of(found: Sequence[Specification], text: bytes, other: bytes) -> Lis
 def canonical_by_model(texts: Mapping[Model, bytes]) -> Dict[Model, bytes]:
     """Returns the canonical text in each data model; none if arguments are numbered."""
     try:
-        return {model: LIBRARY.canonical(text, model) for model, text in texts.items()}
+        return {model: canonical(text, model) for model, text in texts.items()}
     except Refused:
         return {}
 
 
-def unlike_key(canonical: Mapping[Model, bytes], model: Model) -> List[Model]:
-    """Returns the data models in which the canonical text in one isn't the same as the format."""
-    key = canonical[model]
-    return [it for it, other in canonical.items() if other != key and other != LIBRARY.canonical(key, it)]
+def unlike_key(texts: Mapping[Model, bytes], model: Model) -> List[Model]:
+    """Returns the data models in which the canonical text in one, of these in each, isn't the same as the format."""
+    key = texts[model]
+    return [it for it, other in texts.items() if other != key and other != canonical(key, it)]
 
 
 def bounds_of(text: bytes, model: Model) -> Optional[fmtcanon.Bounds]:
@@ -149,7 +157,8 @@ def bounds_of(text: bytes, model: Model) -> Optional[fmtcanon.Bounds]:
 def part_of(
     text: bytes, found: Specification, effects: Specification, types: Dict[Model, Type]
 ) -> ExplainedDirective:
-    """Returns a directive, whose types are these, with what it prints; what has no effect has none in any data model."""
+    """Returns a directive, whose types are these, with what it prints; what has no effect has none in any data model.
+    """
     one = SpelledSpecification(found._replace(needless=effects.needless, together=effects.together), text)
     argument = None if found.argument is None else found.argument + 1
     said = meaning(one), notes(one), type_name(one)
@@ -174,7 +183,7 @@ def compare(
     """Compares two formats. The first may be another text in other data models."""
     formats = (first, second)
     try:
-        found = LIBRARY.compared(first, second, model)
+        found = compared(first, second, model)
     except Refused as refusal:
         rejection = reject(formats[refusal.side], refusal, model, refusal.side)
         is_numbered = refusal.kind is Kind.NUMBERED
@@ -189,7 +198,7 @@ def compare(
 
 def by_types(formats: Tuple[bytes, bytes], model: Model, refusal: Refused) -> Optional[Difference]:
     """Compares the types of two formats if one has numbered arguments; returns None if one is rejected."""
-    found = LIBRARY.by_types(*formats, model, refusal)
+    found = compared_by_types(*formats, model, refusal)
     if found.kind is PairKind.TYPES:
         return Difference(formats, found.kind, at=found.at, parts=parts_at(formats, found.at, model))
     are_same = found.kind is PairKind.SAME or found.refusal is refusal
@@ -202,8 +211,8 @@ def parts_at(formats: Sequence[bytes], index: int, model: Model) -> Tuple[Option
 
 
 def unlike_at(formats: Sequence[bytes], index: int, model: Model) -> Tuple[Optional[ExplainedDirective], ...]:
-    """Returns the directive of each format that takes the argument of this index, or a `%m` in front of it that the other
-    format lacks.
+    """Returns the directive of each format that takes the argument of this index, or a `%m` in front of it that the
+    other format lacks.
     """
     errnos = [errnos_at(it, index, model) for it in formats]
     shared = min(map(len, errnos))
@@ -230,7 +239,7 @@ def part_at(text: bytes, index: int, model: Model) -> Optional[ExplainedDirectiv
 
 def printed_unlike(formats: Tuple[bytes, bytes], arguments: Tuple[Argument, ...], model: Model) -> Difference:
     """Returns what two formats print for arguments that show a difference, and the first directives that do."""
-    arguments = telling_arguments(LIBRARY, *formats, arguments, model)
+    arguments = telling_arguments(*formats, arguments, model)
     printed = tuple(it for it in (printed_by(it, arguments, model) for it in formats) if it is not None)
     first, second = ([part for part in explain(it, model).parts if part.argument] for it in formats)
     unlike = ((one, two) for one, two in zip(first, second) if not is_alike(one, two, arguments, model))
@@ -266,14 +275,11 @@ def argument_of(part: ExplainedDirective, arguments: Sequence[Argument]) -> Argu
     return arguments[(part.argument or 1) - 1]
 
 
-def is_alike(first: ExplainedDirective, second: ExplainedDirective, arguments: Sequence[Argument], model: Model) -> bool:
+def is_alike(
+    first: ExplainedDirective, second: ExplainedDirective, arguments: Sequence[Argument], model: Model
+) -> bool:
     """Returns whether two directives print the same for their arguments."""
     if argument_of(first, arguments) is None:
         return True
     one, two = (printed_by(it.text, [argument_of(it, arguments)], model) for it in (first, second))
     return one == two
-
-
-def printed_by(text: bytes, arguments: Sequence[Argument], model: Model) -> Optional[bytes]:
-    """Returns what a format prints, or None if it can't be had."""
-    return LIBRARY.printed(text, arguments, model)

@@ -13,8 +13,8 @@ from ..specification import SpelledSpecification
 # A macro of <inttypes.h> comes in angle brackets, as xgettext writes it. Its name has its conversion (C11 7.8.1). d and
 # i take one type, and so do o, u, x and X.
 MACRO = re.compile(rb"<PRI([dioxXu])(?:(?:LEAST|FAST)?(?:8|16|32|64)|MAX|PTR)>")
-# What a specification may have before its conversion, also outside of C: the flag I of translations, and what comes before
-# a macro or `m`. It only finds where such an item may end; the library says what it is.
+# What a specification may have before its conversion, also outside of C: the flag I of translations, and what comes
+# before a macro or `m`. It only finds where such an item may end; the library says what it is.
 ITEM = re.compile(rb"%([-+ #0-9'I$*.hljztL]*)(" + MACRO.pattern.replace(b"([", b"(?:[") + rb"|[\s\S]|\Z)")
 LENGTHS = b"hljztL"
 

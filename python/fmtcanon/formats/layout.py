@@ -34,8 +34,8 @@ def column_of(text: bytes, offset: int) -> int:
 
 
 def type_names(part: ExplainedDirective, model: Model) -> List[str]:
-    """Returns the type of an argument, after its name if it has one in all data models, and the types that it has in other
-    data models, each with these; none of `%m`.
+    """Returns the type of an argument, after its name if it has one in all data models, and the types that it has in
+    other data models, each with these; none of `%m`.
     """
     if part.argument is None:
         return [WORDS["errno"]["type"]]
@@ -85,7 +85,8 @@ def explanation_lines(found: Explanation, model: Model, style: Style) -> Iterato
 
 
 def key_lines(canonical: Dict[Model, bytes], model: Model) -> Iterator[str]:
-    """Yields the canonical text in a data model, and where it isn't the same as the format; nothing if there is none."""
+    """Yields the canonical text in a data model, and where it isn't the same as the format; nothing if there is none.
+    """
     if not canonical:
         return
     is_one = len(set(canonical.values())) == 1

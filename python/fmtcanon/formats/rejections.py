@@ -107,8 +107,8 @@ def instead_of(text: bytes, refusal: Refused, model: Model) -> Optional[bytes]:
 
 
 def instead_span(text: bytes, refusal: Refused) -> Tuple[int, int]:
-    """Returns where what `instead_of` returns is written: the specification with the byte at which it is rejected, up to
-    the conversion after the name that another system has for a length modifier.
+    """Returns where what `instead_of` returns is written: the specification with the byte at which it is rejected, up
+    to the conversion after the name that another system has for a length modifier.
     """
     start, end = refused_span(text, refusal)
     one = refused_in(text, refusal)

@@ -5,7 +5,7 @@ types of formats with numbered arguments, which the comparison rejects.
 """
 
 import enum
-from typing import AnyStr, Iterator, List, NamedTuple, Optional, Sequence, Tuple, Union
+from typing import AnyStr, Callable, Iterator, List, NamedTuple, Optional, Sequence, Tuple, Union
 
 import fmtcanon
 from fmtcanon import Model
@@ -54,7 +54,8 @@ class PairVerdict(NamedTuple):
 
 
 class Span(NamedTuple):
-    """Where a specification is in a format: the offsets of its `%` and of what follows it; and its width and precision."""
+    """Where a specification is in a format: the offsets of its `%` and of what follows it; and its width and precision.
+    """
 
     start: int
     end: int
@@ -76,20 +77,21 @@ class Taker(NamedTuple):
 
 def shared_front(first: AnyStr, second: AnyStr) -> int:
     """Returns how long the front is that two texts share."""
-    low, high = 0, min(len(first), len(second))
-    while low < high:
-        middle = (low + high + 1) // 2
-        low, high = (middle, high) if first[low:middle] == second[low:middle] else (low, middle - 1)
-    return low
+    return longest(min(len(first), len(second)), lambda low, it: first[low:it] == second[low:it])
 
 
 def shared_back(first: bytes, second: bytes, front: int) -> int:
     """Returns how long the back is that two texts share after a front of this length."""
-    low, high = 0, min(len(first), len(second)) - front
+    a, b = len(first), len(second)
+    return longest(min(a, b) - front, lambda low, it: first[a - it : a - low] == second[b - it : b - low])
+
+
+def longest(size: int, is_equal: Callable[[int, int], bool]) -> int:
+    """Returns how far two texts are equal, up to a size, if it is known of each part of them."""
+    low, high = 0, size
     while low < high:
         middle = (low + high + 1) // 2
-        is_equal = first[len(first) - middle : len(first) - low] == second[len(second) - middle : len(second) - low]
-        low, high = (middle, high) if is_equal else (low, middle - 1)
+        low, high = (middle, high) if is_equal(low, middle) else (low, middle - 1)
     return low
 
 
@@ -100,8 +102,8 @@ def is_cut(front: bytes) -> bool:
 
 
 def narrowed(old: bytes, new: bytes) -> Tuple[int, int]:
-    """Returns the lengths of a front and of a back that two accepted formats share. Neither ends within a specification.
-    Without them the formats are the same if and only if they are with them.
+    """Returns the lengths of a front and of a back that two accepted formats share. Neither ends within a
+    specification. Without them the formats are the same if and only if they are with them.
     """
     shared = shared_front(old, new)
     front = old.rfind(b"%", 0, shared) if is_cut(old[:shared]) else shared
@@ -115,50 +117,52 @@ def narrowed(old: bytes, new: bytes) -> Tuple[int, int]:
     return front, 0
 
 
-class Library:
-    """The questions to the library, each with the answer for bytes in a data model."""
+def canonical(text: bytes, model: Model) -> bytes:
+    """Returns the canonical text of a format of the whole language. Raises `Refused`."""
+    return fmtcanon.canonical(text, model=model, whole=True)
 
-    def canonical(self, text: bytes, model: Model) -> bytes:
-        """Returns the canonical text of a format. Raises `Refused`."""
-        return fmtcanon.canonical(text, model=model, whole=True)
 
-    def verdict(self, old: bytes, new: bytes, model: Model) -> PairVerdict:
-        try:
-            return self.compared(old, new, model)
-        except fmtcanon.Refused as refusal:
-            return self.by_types(old, new, model, refusal)
+def verdict_on(old: bytes, new: bytes, model: Model) -> PairVerdict:
+    try:
+        return compared(old, new, model)
+    except fmtcanon.Refused as refusal:
+        return compared_by_types(old, new, model, refusal)
 
-    def compared(self, old: bytes, new: bytes, model: Model) -> PairVerdict:
-        """Returns the verdict. Raises `Refused` for a format that the comparison rejects."""
-        found = fmtcanon.compare(old, new, model=model, whole=True)
-        at = (found.types_differ_at, found.directives_differ_at)
-        index = next((it for it in at if it is not None), 0)
-        return PairVerdict(PairKind[found.verdict.name], at=index, arguments=found.arguments or ())
 
-    def by_types(self, old: bytes, new: bytes, model: Model, refusal: fmtcanon.Refused) -> PairVerdict:
-        """Returns the verdict on formats if the comparison rejects one of them: only their types can be judged."""
-        if old == new:
-            return PairVerdict(PairKind.SAME)
-        reason = f"{refusal} of {shown([old, new][refusal.side])}"
-        unjudged = PairVerdict(PairKind.UNJUDGED, reason=reason, refusal=refusal)
-        try:
-            if fmtcanon.fits(old, new, model=model):
-                return unjudged
-        except fmtcanon.Refused as other:
-            kind = PairKind.REJECTED if other.side else PairKind.UNJUDGED
-            return PairVerdict(kind, reason=f"{other} of {shown([old, new][other.side])}", refusal=other)
-        return PairVerdict(PairKind.TYPES, at=shared_front(self.types(old, model), self.types(new, model)))
+def compared(old: bytes, new: bytes, model: Model) -> PairVerdict:
+    """Returns the verdict. Raises `Refused` for a format that the comparison rejects."""
+    found = fmtcanon.compare(old, new, model=model, whole=True)
+    at = (found.types_differ_at, found.directives_differ_at)
+    index = next((it for it in at if it is not None), 0)
+    return PairVerdict(PairKind[found.verdict.name], at=index, arguments=found.arguments or ())
 
-    def types(self, text: bytes, model: Model) -> bytes:
-        """Returns the types of the arguments of a format that is accepted, as the number of each."""
-        return fmtcanon._argument_codes(text, model)
 
-    def printed(self, text: bytes, arguments: Sequence[Argument], model: Model) -> Optional[bytes]:
-        """Returns what a format prints, with placeholders, or None if it can't be had."""
-        try:
-            return fmtcanon.printed(text, arguments, model=model)
-        except (ValueError, MemoryError):
-            return None
+def compared_by_types(old: bytes, new: bytes, model: Model, refusal: fmtcanon.Refused) -> PairVerdict:
+    """Returns the verdict on formats if the comparison rejects one of them: only their types can be judged."""
+    if old == new:
+        return PairVerdict(PairKind.SAME)
+    reason = f"{refusal} of {shown([old, new][refusal.side])}"
+    unjudged = PairVerdict(PairKind.UNJUDGED, reason=reason, refusal=refusal)
+    try:
+        if fmtcanon.fits(old, new, model=model):
+            return unjudged
+    except fmtcanon.Refused as other:
+        kind = PairKind.REJECTED if other.side else PairKind.UNJUDGED
+        return PairVerdict(kind, reason=f"{other} of {shown([old, new][other.side])}", refusal=other)
+    return PairVerdict(PairKind.TYPES, at=shared_front(types_of(old, model), types_of(new, model)))
+
+
+def types_of(text: bytes, model: Model) -> bytes:
+    """Returns the types of the arguments of a format that is accepted, as the number of each."""
+    return fmtcanon._argument_codes(text, model)
+
+
+def printed_by(text: bytes, arguments: Sequence[Argument], model: Model) -> Optional[bytes]:
+    """Returns what a format prints, with placeholders, or None if it can't be had."""
+    try:
+        return fmtcanon.printed(text, arguments, model=model)
+    except (ValueError, MemoryError):
+        return None
 
 
 def taker_of(text: bytes, argument: int, model: Model) -> Optional[Taker]:
@@ -182,7 +186,8 @@ def both_take(takers: Sequence[Optional[Taker]]) -> str:
 
 
 def directives_in(text: bytes) -> Iterator[Span]:
-    """Yields where a text has specifications, also if it is not a format: then those before and after what is rejected."""
+    """Yields where a text has specifications, also if it is not a format: then those before and after what is rejected.
+    """
     done = 0
     # Most texts have none.
     while text.find(b"%", done) >= 0:
@@ -215,14 +220,14 @@ def without_specifications(text: bytes) -> bytes:
     return b"%".join([*parts, text[done:]])
 
 
-def only_words_differ(library: Library, old: bytes, new: bytes, model: Model) -> bool:
+def only_words_differ(old: bytes, new: bytes, model: Model) -> bool:
     """Returns whether two formats that differ have the same directives."""
-    found = library.verdict(specifications(old), specifications(new), model)
+    found = verdict_on(specifications(old), specifications(new), model)
     return found.kind is PairKind.SAME
 
 
 def telling_arguments(
-    library: Library, old: bytes, new: bytes, arguments: Tuple[Argument, ...], model: Model
+    old: bytes, new: bytes, arguments: Tuple[Argument, ...], model: Model
 ) -> Tuple[Argument, ...]:
     """Returns short arguments that two formats print differently.
 
@@ -230,22 +235,22 @@ def telling_arguments(
     """
     if without_specifications(old) != without_specifications(new):
         inner = specifications(old), specifications(new)
-        verdict = library.verdict(*inner, model)
+        verdict = verdict_on(*inner, model)
         if verdict.kind is PairKind.DIFFERENT:
-            found = shortened(library, *inner, verdict.arguments, model)
-            if is_told_apart(library, old, new, found, model):
+            found = shortened(*inner, verdict.arguments, model)
+            if is_told_apart(old, new, found, model):
                 return found
-    return shortened(library, old, new, arguments, model)
+    return shortened(old, new, arguments, model)
 
 
-def is_told_apart(library: Library, old: bytes, new: bytes, arguments: Sequence[Argument], model: Model) -> bool:
+def is_told_apart(old: bytes, new: bytes, arguments: Sequence[Argument], model: Model) -> bool:
     """Returns whether it is known that two formats print these arguments differently."""
-    first, second = (library.printed(it, arguments, model) for it in (old, new))
+    first, second = (printed_by(it, arguments, model) for it in (old, new))
     return first is not None and second is not None and first != second
 
 
 def shortened(
-    library: Library, old: bytes, new: bytes, arguments: Tuple[Argument, ...], model: Model
+    old: bytes, new: bytes, arguments: Tuple[Argument, ...], model: Model
 ) -> Tuple[Argument, ...]:
     """Returns arguments whose long strings are as short as can be, so that the formats still print differently.
 
@@ -261,7 +266,7 @@ def shortened(
             if length >= len(argument):
                 break
             tried = [*found[:at], argument[:length], *found[at + 1 :]]
-            if is_told_apart(library, old, new, tried, model):
+            if is_told_apart(old, new, tried, model):
                 found = tried
                 break
     return tuple(found)

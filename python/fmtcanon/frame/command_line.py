@@ -139,5 +139,10 @@ def status_of_output(name: str, error: Union[BrokenPipeError, Unwritable]) -> in
     return USAGE if isinstance(error, Unwritable) else 128 + signal.SIGPIPE
 
 
+def counted(count: int, word: str) -> str:
+    """Returns a number with what it counts."""
+    return f"{count} {word}" if count == 1 else f"{count} {word}s"
+
+
 def model_names(models: Sequence[Model]) -> Tuple[str, ...]:
     return tuple(it.name.lower() for it in models)

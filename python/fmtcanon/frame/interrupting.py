@@ -30,8 +30,8 @@ class Interrupted(BaseException):
 
 
 class Signals:
-    """The first signal raises `Interrupted` in the main thread, within a block that may be interrupted or after the part
-    of it that holds signals. It is raised again if it got lost, as each exception in a destructor does.
+    """The first signal raises `Interrupted` in the main thread, within a block that may be interrupted or after the
+    part of it that holds signals. It is raised again if it got lost, as each exception in a destructor does.
     """
 
     def __init__(self) -> None:

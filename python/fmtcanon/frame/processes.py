@@ -187,8 +187,8 @@ class Workers:
 
 
 def started(work: Callable[[Any], Any], others: Iterable[Connection] = ()) -> Worker:
-    """Starts a process that works on what it gets by its connection, and holds none of the others. Raises `ImportError`,
-    `OSError` or `ValueError` if the system has no means for it.
+    """Starts a process that works on what it gets by its connection, and holds none of the others. Raises
+    `ImportError`, `OSError` or `ValueError` if the system has no means for it.
     """
     from multiprocessing import get_context
 

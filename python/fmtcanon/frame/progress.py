@@ -1,4 +1,5 @@
-"""Says on a terminal how far long work is: files done, of how many. Nothing is said into a pipe or in the first second."""
+"""Says on a terminal how far long work is: files done, of how many. Nothing is said into a pipe or in the first second.
+"""
 
 from __future__ import annotations
 

@@ -11,7 +11,8 @@ NO_DIRECTIVE = "No directive takes this argument."
 
 
 def signature(written: WrittenSource, offset: int, model: Model) -> Optional[Dict[str, Any]]:
-    """Returns the format whose argument is at an offset, with the directive that this is for, as the protocol has it."""
+    """Returns the format whose argument is at an offset, with the directive that this is for, as the protocol has it.
+    """
     call = written.call_at(offset)
     if call is None or not call.format.directives:
         return None

@@ -11,8 +11,8 @@ USAGE_LINES = "fmtcanon-lsp [OPTION]"
 DESCRIPTION = """\
 A language server for printf formats in C, C++ and message catalogs, over standard input and output.
 
-It says what each directive does and which argument it takes, what is rejected, which parts have no effect, and what is \
-wrong with a translation. With libclang it also says what fmtcanon-check finds: then it runs the preprocessors of \
+It says what each directive does and which argument it takes, what is rejected, which parts have no effect, and what \
+is wrong with a translation. With libclang it also says what fmtcanon-check finds: then it runs the preprocessors of \
 compilers, and writes to a temporary folder."""
 EPILOG = """\
 Options of the editor, as initializationOptions:

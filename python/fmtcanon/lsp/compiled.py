@@ -2,11 +2,12 @@
 
 import re
 import time
-from typing import Any, Callable, Dict, Iterable, Iterator, List, NamedTuple, Optional, Sequence, Tuple, TypeVar
+from typing import Any, Dict, Iterable, Iterator, List, NamedTuple, Optional, Sequence, Tuple, TypeVar
 
 from ..compiling.platforms import COMPILED
 from ..fitting.judging import Fit
 from ..fitting.reporting import UNJUDGED
+from ..formats.verdicts import shared_back, shared_front
 from ..frame.findings import Finding
 from ..source.written import WrittenSource, trimmed
 from .diagnosing import LEVELS, NOT_BY_CLANG, Diagnosis, SourceFix, TextEdit
@@ -70,19 +71,8 @@ NAMES_NOT_BY_CLANG = {it.name.title().replace("_", "") for it in NOT_BY_CLANG}
 
 def change_between(old: bytes, new: bytes) -> TextChange:
     """Returns what changed between two texts, as one piece."""
-    size, first, second = min(len(old), len(new)), len(old), len(new)
-    start = longest(size, lambda low, it: old[low:it] == new[low:it])
-    kept = longest(size - start, lambda low, it: old[first - it : first - low] == new[second - it : second - low])
-    return TextChange(start, first - kept, second - first)
-
-
-def longest(size: int, is_equal: Callable[[int, int], bool]) -> int:
-    """Returns how far two texts are equal, up to a size, if it is known of each part of them."""
-    low, high = 0, size
-    while low < high:
-        middle = (low + high + 1) // 2
-        low, high = (middle, high) if is_equal(low, middle) else (low, middle - 1)
-    return low
+    start = shared_front(old, new)
+    return TextChange(start, len(old) - shared_back(old, new, start), len(new) - len(old))
 
 
 def after(found: Iterable[Spanning], changes: Sequence[TextChange]) -> List[Spanning]:

@@ -12,8 +12,8 @@ from .worker import CompiledText
 
 
 class Compiling:
-    """The sources among views that are due, and the process that compiles them. `log` says something, and `publish` what
-    is found in a view.
+    """The sources among views that are due, and the process that compiles them. `log` says something, and `publish`
+    what is found in a view.
     """
 
     def __init__(

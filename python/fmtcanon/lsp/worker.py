@@ -6,11 +6,10 @@ import tempfile
 import time
 from typing import Iterator, Mapping, NamedTuple, Optional, Sequence, Tuple
 
-from ..compiling.kept import KeptUnits
 from ..compiling.left import Left
 from ..compiling.retargeting import write_headers
 from ..compiling.sources import Name
-from ..fitting import macros, silencing
+from ..fitting import silencing
 from ..fitting.asking import job_of
 from ..fitting.checking import Question, answer
 from ..fitting.reporting import SKIPPED, shown_file
@@ -18,6 +17,7 @@ from ..fitting.unit import Settings
 from ..frame.findings import Finding
 from ..frame.interrupting import CLEANING
 from ..models import Model
+from ..source.files import known_bytes
 from ..source.known import Shape
 from .compiled import CompiledAnswer, FindingAt
 from .databases import Databases, absolute_path
@@ -42,13 +42,12 @@ class CompiledText(NamedTuple):
 
 
 class CompileWorker:
-    """Judges one text after another. What libclang keeps of headers is in a folder, which goes with the process."""
+    """Judges one text after another. Its headers are in a folder, which goes with the process."""
 
     def __init__(self, folder: str, root: Optional[str]) -> None:
         self.folder, self.root = folder, root
         self.databases = Databases()
         self.words: Sequence[str] = ()
-        self.kept = KeptUnits(folder)
 
     def start(self) -> None:
         """Takes note that this is a process of its own: nothing that it prints gets to the editor."""
@@ -66,14 +65,14 @@ class CompileWorker:
             self.start()
         # Other files may have changed.
         silencing.comments_of.cache_clear()
-        macros.source_of.cache_clear()
+        known_bytes.cache_clear()
         with open(given.text, "rb") as stream:
             data = stream.read()
         try:
             files = self.databases.files(given.path, given.database, given.flags)
         except (Left, OSError) as why:
             return CompiledAnswer(given.uri, (), str(why))
-        settings = Settings(self.words, given.functions, {}, kept=self.kept)
+        settings = Settings(self.words, given.functions, {})
         question = Question(given.models, given.added, settings)
         found = answer(job_of(files, Name(given.path, given.path), question, data))
         findings = [it.finding for it in found.found.values()]

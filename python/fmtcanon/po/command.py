@@ -7,7 +7,7 @@ import os
 import sys
 from typing import Any, Dict, Hashable, Iterator, List, NamedTuple, Optional, Sequence, Set, Tuple, Union
 
-from ..frame.command_line import MODELS, Parser, status_of
+from ..frame.command_line import MODELS, Parser, counted, status_of
 from ..frame.findings import Finding, Printer, by_place
 from ..frame.output import Unwritable
 from ..frame.processes import in_order
@@ -40,8 +40,9 @@ Examples:
 A fault is reported on standard error, as by `msgfmt -c`: the file, the line, the reason and the message. A terminal \
 also shows the lines of the catalog. Arguments are counted from 1, as in %1$d. If only the message is not a C format, \
 its translation can't be judged, which is a warning, once for all catalogs. It is a warning, too, if a translation \
-prints an int as something else, as %c for %d, or if some of its plural forms are empty. The last lines count the messages that were judged and \
-that were not, the faults, and the messages with formats of other languages, which are not judged.
+prints an int as something else, as %c for %d, or if some of its plural forms are empty. The last lines count the \
+messages that were judged and that were not, the faults, and the messages with formats of other languages, which are \
+not judged.
 
 Exit status:
   0  there is no fault
@@ -127,10 +128,6 @@ def main(words: Optional[Sequence[str]] = None) -> int:
     if not options.files + more:
         made.error("give the catalogs")
     return status_of(NAME, lambda: check(options, [*options.files, *more]))
-
-
-def counted(count: int, word: str) -> str:
-    return f"{count} {word}" if count == 1 else f"{count} {word}s"
 
 
 def check(options: Any, files: Sequence[str]) -> int:

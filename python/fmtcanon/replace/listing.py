@@ -4,8 +4,8 @@ import collections
 from typing import Any, Dict, Iterable, Iterator, List, Mapping, NamedTuple, Sequence, Tuple
 
 from .. import Refused
-from ..formats.verdicts import Library, shown
-from ..frame.command_line import model_names
+from ..formats.verdicts import canonical, shown
+from ..frame.command_line import counted, model_names
 from ..frame.findings import NOTE, WARNING, Finding
 from ..models import Model
 from ..source.known import GETTEXT, KNOWN, Shape
@@ -37,13 +37,12 @@ def listed_in(file: str, data: bytes, models: Sequence[Model]) -> Iterator[Liste
 
 def meaning_of(place: Place, models: Sequence[Model]) -> Tuple[Tuple[bytes, ...], str]:
     found: List[bytes] = []
-    library = Library()
     for model in models:
         text, why = place.text(model)
         if text is None:
             return (), why
         try:
-            found.append(library.canonical(text, model))
+            found.append(canonical(text, model))
         except Refused as refusal:
             return (), f"{refusal} of {shown(text)}"
     return tuple(found), ""
@@ -92,15 +91,11 @@ def finding_of(listed: Listed, models: Sequence[Model]) -> Finding:
 
 def heading(group: Sequence[Listed]) -> str:
     """Returns the line above the places of one meaning."""
-    count = places_of(len(group))
+    count = counted(len(group), "place")
     if group[0].why:
         return f"not judged: {count}"
     spellings = len({it.place.text(Model.LP64)[0] for it in group})
     return f"{shown(group[0].meaning[0])}: {count}" + (f", {spellings} spellings" if spellings > 1 else "")
-
-
-def places_of(count: int) -> str:
-    return f"{count} place{'s' if count > 1 else ''}"
 
 
 def functions(listed: Iterable[Listed], given: Mapping[str, Shape]) -> Iterator[Tuple[str, List[Listed]]]:
@@ -111,7 +106,7 @@ def functions(listed: Iterable[Listed], given: Mapping[str, Shape]) -> Iterator[
         if call.function and not call.function.startswith(b"#"):
             found[call.function.decode(errors="backslashreplace"), call.argument].append(one)
     for (name, index), places in sorted(found.items(), key=lambda it: (-len(it[1]), it[0])):
-        yield f"{name}:{index + 1}: {how_known(name, index, given)}, {places_of(len(places))}", places
+        yield f"{name}:{index + 1}: {how_known(name, index, given)}, {counted(len(places), 'place')}", places
 
 
 def how_known(name: str, index: int, given: Mapping[str, Shape]) -> str:

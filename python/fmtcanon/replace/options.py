@@ -22,12 +22,12 @@ DESCRIPTION = """\
 Replaces printf formats by others in C source. Nothing is replaced unless both take the same arguments and print the \
 same bytes for all of them.
 
-OLD and NEW are formats as C has them between the quotes, so '%i\\n' ends in a newline. A literal is one or more adjacent \
-string literals that make up OLD. It is replaced if it is the format of a call of the C library's printf family, of a \
-function given by --function, or, with --attribute, of one that is declared with the attribute format(printf, m, n). \
-The file's own compiler preprocesses it, and libclang (the package python3-clang) finds the calls in that text. The \
-result is preprocessed again, and checked with the warnings of the compile command: only the replaced literals may \
-differ. Parts that OLD and NEW share keep their spelling.
+OLD and NEW are formats as C has them between the quotes, so '%i\\n' ends in a newline. A literal is one or more \
+adjacent string literals that make up OLD. It is replaced if it is the format of a call of the C library's printf \
+family, of a function given by --function, or, with --attribute, of one that is declared with the attribute \
+format(printf, m, n). The file's own compiler preprocesses it, and libclang (the package python3-clang) finds the \
+calls in that text. The result is preprocessed again, and checked with the warnings of the compile command: only the \
+replaced literals may differ. Parts that OLD and NEW share keep their spelling.
 
 FILE is a file or a folder, whose C and C++ files are all read; links out of it are not followed. Without one, all \
 files of the compile commands in -p are read. All files are reported before the first is replaced."""
@@ -37,8 +37,8 @@ Examples:
   fmtcanon-replace -p build --diff '%5.5d' '%.5d'
   fmtcanon-replace --list src
 
-It reports each literal, and says whether it was replaced and, if not, why. It also reports each literal that means the \
-same as OLD and is spelled differently, except for one that is already NEW. Arguments are counted from 1, as in \
+It reports each literal, and says whether it was replaced and, if not, why. It also reports each literal that means \
+the same as OLD and is spelled differently, except for one that is already NEW. Arguments are counted from 1, as in \
 %1$d.
 
 The kinds of findings are {', '.join(RULES)}.
@@ -69,14 +69,10 @@ def parser() -> Parser:
 
 def add_modes(made: Parser) -> None:
     """Adds the options that say what is done."""
-    for option, text in [
-        ("--posix-locale", "the program prints in the POSIX locale only; otherwise a format with the flag ' is skipped"),
-        ("--list", "print all formats of the files, grouped by their meaning, and change no file"),
-        (
-            "--list-functions",
-            "print the functions that take the formats of the files, " "or without files those whose formats are known",
-        ),
-    ]:
+    locale = "the program prints in the POSIX locale only; otherwise a format with the flag ' is skipped"
+    formats = "print all formats of the files, grouped by their meaning, and change no file"
+    functions = "print the functions that take the formats of the files, or without files those whose formats are known"
+    for option, text in [("--posix-locale", locale), ("--list", formats), ("--list-functions", functions)]:
         made.add_argument(option, action="store_true", help=text)
     pairs = "replace the formats of a file that has an OLD and a NEW on each line, with a tab between"
     made.add_argument("--pairs", metavar="FILE", help=pairs)

@@ -7,10 +7,11 @@ import fmtcanon
 
 from ..formats.explaining import Marked, marked_parts
 from ..formats.verdicts import (
-    Library,
     PairKind,
     argument_words,
     both_take,
+    canonical,
+    compared,
     shown,
     shown_arguments,
     specifications,
@@ -19,7 +20,6 @@ from ..formats.verdicts import (
 from ..source.files import read_file
 from ..source.respelling import decoded
 
-LIBRARY = Library()
 OTHERWISE = "it means the same, and is spelled otherwise"
 GROUPING = "the flag ' groups digits in other locales; use --posix-locale if the program prints only in POSIX"
 
@@ -58,7 +58,7 @@ def pairs_in(file: str) -> List[Tuple[bytes, bytes]]:
 
 def difference(old: bytes, new: bytes, model: fmtcanon.Model) -> Optional[str]:
     """Returns how two formats differ in a data model, or None. Raises `Refused`."""
-    found = LIBRARY.compared(old, new, model)
+    found = compared(old, new, model)
     if found.kind is PairKind.SAME:
         return None
     if found.kind is PairKind.DIFFERENT:
@@ -74,7 +74,7 @@ def difference(old: bytes, new: bytes, model: fmtcanon.Model) -> Optional[str]:
 def marked_pair(old: bytes, new: bytes, models: Sequence[fmtcanon.Model]) -> Sequence[Optional[Marked]]:
     """Returns the directives in which two formats differ in the first data model in which they do, or nothing."""
     for model in models:
-        found = LIBRARY.compared(old, new, model)
+        found = compared(old, new, model)
         if found.kind is not PairKind.SAME:
             return marked_parts((old, new), found, model)
     return ()
@@ -93,7 +93,8 @@ def has_grouping(text: bytes) -> bool:
 
 
 class Rule(NamedTuple):
-    """What is done with a place: the new text, or why it is left. `marks` are the directives in which the two differ."""
+    """What is done with a place: the new text, or why it is left. `marks` are the directives in which the two differ.
+    """
 
     new: bytes
     why_left: str = ""
@@ -129,7 +130,7 @@ class Pairs:
     def meaning(self, text: bytes) -> Optional[Hashable]:
         """Returns what all texts of one meaning have in common, or None for a text that isn't a format."""
         try:
-            found = tuple(LIBRARY.canonical(text, it) for it in self.models)
+            found = tuple(canonical(text, it) for it in self.models)
         except fmtcanon.Refused:
             return None
         return found, not self.is_posix and has_grouping(text)

@@ -9,13 +9,13 @@ from typing import Iterator, Set, Tuple
 
 from ..compiling.compile_commands import CompileCommand
 from ..compiling.left import Left
+from ..compiling.line_markers import parts_in, path_in
 from ..source.files import read_file
 from ..source.known import KNOWN
 from ..source.respelling import decoded
 from ..source.tokens import PREPROCESSED, without_splices
 
 NAMES = re.compile(rb"(?<![\w$])_*(?:" + b"|".join(sorted(it.encode() for it in KNOWN)) + rb")(?![\w$])")
-MARKER = re.compile(rb'# \d+ "((?:[^"\\]|\\.)*)"(.*)')
 # A comment matches in one way only, so that a search that fails takes linear time.
 SPACE = rb"(?:[ \t\f\v]|/\*(?:[^*\n]|\*(?!/))*\*/)*"
 LINE_DIRECTIVE = re.compile(rb"^" + SPACE + rb"(?:#|%:|\?\?=)" + SPACE + rb"(?:line\b|[0-9])", re.MULTILINE)
@@ -25,35 +25,19 @@ OF_ASSEMBLER = re.compile(rb"\.(?:incbin|include|macro|altmacro|irpc?|rept)\b", 
 COLUMN = re.compile(rb"\b__builtin_(?:COLUMN|source_location)\b")
 
 
-def marked_lines(text: bytes, folder: str) -> Iterator[Tuple[bytes, str, bool]]:
-    """Yields each line of preprocessed text with the path of the file that it is from; for a line marker its file, and
-    whether it enters that.
-    """
-    file, files = "", {}
-    for line in text.split(b"\n"):
-        marker = MARKER.match(line)
-        if marker:
-            if marker[1] not in files:
-                name = decoded(b'"' + marker[1] + b'"')
-                files[marker[1]] = os.path.realpath(
-                    os.path.join(folder, os.fsdecode(marker[1] if name is None else name))
-                )
-            file = files[marker[1]]
-        yield line, file, bool(marker) and b" 1" in (marker[2] if marker else b"")
-
-
 def project_part(command: CompileCommand, text: bytes) -> Tuple[bytes, Set[str]]:
-    """Returns the lines of preprocessed text that aren't from the compiler's own headers, and the files that these are
+    """Returns the parts of preprocessed text that aren't from the compiler's own headers, and the files that these are
     from.
     """
     folders = tuple(f"{it}/" for it in command.system_folders())
     parts, files, own = [], set(), os.stat(command.file)
-    for line, file, enters in marked_lines(text, command.folder):
-        if enters and os.path.exists(file) and os.path.samestat(os.stat(file), own):
+    for marker, start, end in parts_in(text):
+        file = path_in(marker[2], command.folder)
+        if b" 1" in marker[3] and os.path.exists(file) and os.path.samestat(os.stat(file), own):
             raise Left("it includes itself")
         if not file.startswith(folders):
             files.add(file)
-            parts.append(b"" if MARKER.match(line) else line)
+            parts.append(text[start:end])
     return b"\n".join(parts), {it for it in files if os.path.isfile(it)}
 
 

@@ -19,8 +19,8 @@ from .units import Units, units_of
 
 
 class Report(NamedTuple):
-    """What is found in a file, the file and its new bytes, its unified diff, whether it wasn't judged, and whether there
-    was an error.
+    """What is found in a file, the file and its new bytes, its unified diff, whether it wasn't judged, and whether
+    there was an error.
     """
 
     name: str

@@ -63,7 +63,8 @@ def declared_at(text: str, start: int, end: int) -> Optional[str]:
 
 
 def declared_for(path: str, data: bytes) -> Dict[bytes, Shape]:
-    """Returns the functions that a source and the headers declare that it includes in quotes, near it among the files."""
+    """Returns the functions that a source and the headers declare that it includes in quotes, near it among the files.
+    """
     found: Dict[bytes, Shape] = {}
     folder = os.path.dirname(path)
     seen: Set[str] = set()

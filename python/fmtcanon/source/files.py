@@ -2,6 +2,7 @@
 
 import errno
 import fnmatch
+import functools
 import os
 import re
 import stat
@@ -59,6 +60,15 @@ def bytes_of(path: str) -> bytes:
         return read_file(path).data
     except (OSError, ValueError):
         return b""
+
+
+# The bytes of files as they were when they were first asked for.
+known_bytes = functools.lru_cache(maxsize=64)(bytes_of)
+
+
+@functools.lru_cache(maxsize=64)
+def lines_in(source: bytes) -> List[bytes]:
+    return source.split(b"\n")
 
 
 def read(path: str, name: str = "", is_given: bool = False) -> bytes:

@@ -223,29 +223,6 @@ def end_of_raw(text: bytes, start: int) -> int:
     return text.index(b")" + begin["delimiter"] + b'"', begin.end()) + len(begin["delimiter"]) + 2
 
 
-# A statement, or the front of a long one: its parts have no bound, and a match keeps a state for each.
-STATEMENT = re.compile(
-    rb"(?:[^\"'/#;{}]+|" + rb"|".join([STRING, CHARACTER, ANY_COMMENT]) + rb"|/(?![/*])|#[ \t]*" + OTHER_DIRECTIVE
-    + rb"|#|" + OPEN + rb"){1,100}(?P<end>[;{}])?|(?P<mark>[;{}])|[\s\S]"
-)
-IS_DIRECTIVE = re.compile(rb"[ \t]*#")
-# What the pattern of statements doesn't know: raw strings and separators within numbers.
-UNUSUAL = re.compile(rb"\"(?<=R\")|'(?<=[0-9a-fA-F]')[0-9a-fA-F]")
-
-
-def statement_ends(text: bytes, begin: int = 0) -> Iterator[int]:
-    """Yields the offsets at which a statement ends, outside of directives. One must begin at the first offset."""
-    line = text.rfind(b"\n", 0, begin) + 1
-    is_directive, done = IS_DIRECTIVE.match(text, line) is not None, begin
-    for found in STATEMENT.finditer(text, begin):
-        line = text.rfind(b"\n", done, found.end()) + 1
-        done = found.end()
-        if line:
-            is_directive = IS_DIRECTIVE.match(text, line) is not None
-        if found.lastgroup and not is_directive:
-            yield done
-
-
 class Source:
     """A source: its text without spliced lines, the macros that it defines, and its places, once it is read."""
 
@@ -254,15 +231,12 @@ class Source:
         self.splices: List[Tuple[int, int]] = []
         self.plain = data if b"\\\n" not in data and b"\\\r\n" not in data else self.without_splices()
         self.macros = definitions(self.plain) if b"define" in data else {}
-        # What is read of the text, and the places in it.
-        self.begin, self.end = 0, 0
         self.places: List[Place] = []
         # Up to where lines were counted, and how many there are.
         self.counted, self.lines = 0, 1
 
-    def read(self, begin: int = 0, end: Optional[int] = None) -> "Source":
-        """Reads the places between two offsets in the text, where statements may begin."""
-        self.begin, self.end = begin, len(self.plain) if end is None else end
+    def read(self) -> "Source":
+        """Reads the places."""
         self.places = Reader(self).places()
         return self
 
@@ -327,7 +301,6 @@ class Reader:
         # The name before each bracket that is open, if it may be a function, and how many commas came since.
         self.brackets: List[List[Any]] = []
         self.found: List[Place] = []
-        self.end = source.end
         # Where the definition of a macro ends that is being read, and its name.
         self.limit, self.defined = len(self.text), b""
         # Macros that may be a format by themselves.
@@ -340,7 +313,7 @@ class Reader:
         self.raw_ends: Optional[Dict[bytes, int]] = None
 
     def places(self) -> List[Place]:
-        done: Optional[int] = self.source.begin
+        done: Optional[int] = 0
         while done is not None:
             done = self.read(done)
         return self.found
@@ -353,8 +326,6 @@ class Reader:
             if kind is None:
                 continue
             start = token.start(GROUPS.get(kind, kind))
-            if start >= self.end:
-                break
             if start >= self.limit:
                 self.clear(len(text), b"")
             if kind == "mark":

@@ -60,7 +60,8 @@ def element_spans(plain: bytes) -> List[Tuple[int, int]]:
 
 
 def span_in(place: LiteralRun, start: int, end: int) -> Tuple[int, int]:
-    """Returns where a part of a place's text, by its bytes, is in the source; or the place, if it isn't in one piece."""
+    """Returns where a part of a place's text, by its bytes, is in the source; or the place, if it isn't in one piece.
+    """
     plain, offsets = plain_literals(place.source)
     spans = element_spans(plain)
     if len(spans) != len(place.text):

@@ -4,6 +4,8 @@ import functools
 import re
 from typing import List, Sequence, Tuple
 
+from ..formats.verdicts import shared_front
+
 # A string literal without a prefix, in which lines may be spliced.
 STRING = rb'"[^"\\\n]*(?:\\(?:\r\n|[\s\S])[^"\\\n]*)*"'
 RAW = rb"(?:u8|[uUL])?R\"(?P<raw>[^()\\\s\"]{0,16})\([\s\S]*?\)(?P=raw)\""
@@ -35,11 +37,7 @@ def common_front(first: bytes, second: bytes) -> int:
     """
     if MAY_BE_RAW.search(first):
         return 0
-    low, high = 0, min(len(first), len(second))
-    while low < high:
-        middle = (low + high + 1) // 2
-        low, high = (middle, high) if first[low:middle] == second[low:middle] else (low, middle - 1)
-    at = first.rfind(b"\n# ", 0, low)
+    at = first.rfind(b"\n# ", 0, shared_front(first, second))
     while at > 0 and not first[max(at - 200, 0) : at].rstrip().endswith((b";", b"}")):
         at = first.rfind(b"\n# ", 0, at)
     return max(at, 0)

@@ -25,8 +25,8 @@ AROUND = 50_000
 
 
 class Stretch(NamedTuple):
-    """Bytes of a format, by their offsets, that one part of a place gives, and where that is in the text. `literal` is its
-    source if it is a string literal.
+    """Bytes of a format, by their offsets, that one part of a place gives, and where that is in the text. `literal` is
+    its source if it is a string literal.
     """
 
     start: int
@@ -37,7 +37,8 @@ class Stretch(NamedTuple):
 
 
 class WrittenDirective(NamedTuple):
-    """A directive of a format, and its offsets in the file. `is_whole` is whether one literal has it and nothing else."""
+    """A directive of a format, and its offsets in the file. `is_whole` is whether one literal has it and nothing else.
+    """
 
     part: ExplainedDirective
     start: int
@@ -103,7 +104,9 @@ class WrittenFormat:
         return None if found is None else one.at + found
 
     def range_of(self, start: int, end: int) -> Tuple[int, int, bool]:
-        """Returns where bytes are in the file, or the whole format if that isn't known; and whether one literal has them."""
+        """Returns where bytes are in the file, or the whole format if that isn't known; and whether one literal has
+        them.
+        """
         first, last = self.offset_of(start, False), self.offset_of(max(end - 1, start), True)
         if first is None or last is None:
             return self.start, self.end, False
@@ -116,8 +119,8 @@ class WrittenFormat:
 
 
 class WrittenCall(NamedTuple):
-    """A call with a format: where its arguments are in the file that the format converts, with the space around them; and
-    the number of the one that is asked for, from 0.
+    """A call with a format: where its arguments are in the file that the format converts, with the space around them;
+    and the number of the one that is asked for, from 0.
     """
 
     format: WrittenFormat
@@ -126,8 +129,8 @@ class WrittenCall(NamedTuple):
 
 
 class WrittenSource:
-    """A source, or the part around an offset, in a data model. `shapes` are functions besides those of the C library: if
-    they aren't given, those that the text declares. `macros` are what other parts define.
+    """A source, or the part around an offset, in a data model. `shapes` are functions besides those of the C library:
+    if they aren't given, those that the text declares. `macros` are what other parts define.
     """
 
     def __init__(
@@ -218,14 +221,17 @@ class WrittenSource:
 
 
 def window(data: bytes, near: int) -> Tuple[int, int]:
-    """Returns what is read around an offset: from a line that begins with `}` to the next one, as far as these are near."""
+    """Returns what is read around an offset: from a line that begins with `}` to the next one, as far as these are
+    near.
+    """
     begin, end = data.rfind(b"\n}", max(0, near - AROUND), near), data.find(b"\n}", near, near + AROUND)
     line = data.find(b"\n", max(0, near - AROUND), near) + 1 if near > AROUND else 0
     return begin + 2 if begin >= 0 else line, end + 2 if end >= 0 else min(len(data), near + AROUND)
 
 
 def split(text: bytes, at: int) -> List[Tuple[int, int]]:
-    """Returns where the arguments of a call are, by the offset after its bracket, up to its end or that of a statement."""
+    """Returns where the arguments of a call are, by the offset after its bracket, up to its end or that of a statement.
+    """
     found, depth, begin = [], 0, at
     for token in MARKS.finditer(text, at, at + AFTER):
         mark = token["mark"]
