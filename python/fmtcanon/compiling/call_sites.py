@@ -41,8 +41,8 @@ Span = Tuple[int, int]
 
 
 def names_in(text: str, spans: Sequence[Span], given: Iterable[str]) -> AbstractSet[str]:
-    """Returns the names of functions that may have a format, in these parts of a text: those that are given, are known, or
-    are declared as variadic or with the attribute in the text.
+    """Returns the names of functions that may have a format, in these parts of a text: those that are given, are known,
+    or are declared as variadic or with the attribute in the text.
     """
     return {*given, *KNOWN, *(BUILT_IN_PREFIX + it for it in KNOWN), *declared_names(text, spans)}
 

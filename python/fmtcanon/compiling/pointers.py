@@ -16,8 +16,8 @@ from .parsing import CALL_EXPR, VISIT_INSIDE, Parsed
 # A declaration of a pointer to a function with a list or further arguments, or a typedef of such a function.
 POINTER = re.compile(rf"\){SPACE}\((?:[^()]|\([^()]*\))*(?:\.\.\.|va_list\s*\w*){SPACE}\)")
 TYPEDEF = re.compile(rf"typedef\b[^;{{}}]*\.\.\.{SPACE}\)")
-# What is before and after a name that may be a value, and no call: what has one in parentheses after a keyword gives it to
-# nobody. And what is after one that gets a value.
+# What is before and after a name that may be a value, and no call: what has one in parentheses after a keyword gives it
+# to nobody. And what is after one that gets a value.
 BEFORE = re.compile(
     r"(?:[=,?:{&.>]|\*/|(?<!\bif)(?<!\breturn)(?<!\bwhile)(?<!\bswitch)\s?\()\s*(?:\(\s*void\s*\*\s*\)\s*)?\Z"
 )
@@ -74,7 +74,8 @@ def given_in(unit: Parsed, callees: Callees, names: Set[str], spans: Sequence[Sp
 
 
 def names_at(text: str, names: Iterable[str], start: int = 0, end: Optional[int] = None) -> Iterator[Span]:
-    """Yields where these names are in a part of a text. To look for one after another is faster than a pattern of all."""
+    """Yields where these names are in a part of a text. To look for one after another is faster than a pattern of all.
+    """
     for name in names:
         at = text.find(name, start, end)
         while at >= 0:
