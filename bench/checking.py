@@ -2,10 +2,10 @@
 
 Usage: bench/checking.py [--before DIR] [--jobs N] [--times N] TREE..
 
-Each TREE has a `compile_commands.json`; nothing there is changed. Times are seconds of a processor, of the command and of
-all that it starts: the least of some rounds, in each of which all are run one after another. `gcc` is the command of each
-file with `-fsyntax-only -Wformat=2`. DIR is another checkout, whose first run is timed, too. It needs libclang and the
-library, as `fmtcanon-check` does.
+Each TREE has a `compile_commands.json`; nothing there is changed. Times are seconds of a processor, of the command and
+of all that it starts: the least of some rounds, in each of which all are run one after another. `gcc` is the command of
+each file with `-fsyntax-only -Wformat=2`. DIR is another checkout, whose first run is timed, too. It needs libclang and
+the library, as `fmtcanon-check` does.
 """
 
 import argparse
@@ -70,7 +70,8 @@ def main():
     parser.add_argument("--times", type=int, default=3)
     parser.add_argument("trees", nargs="+")
     options = parser.parse_args()
-    names = ["Program", "Files", "gcc", "Cold", "Warm", "Warm to gcc", *["Cold before", "Cold to before"] * len(options.before)]
+    names = ["Program", "Files", "gcc", "Cold", "Warm", "Warm to gcc"]
+    names += ["Cold before", "Cold to before"] * len(options.before)
     print(f"| {' | '.join(names)} |\n|{'---|' * len(names)}")
     for tree in map(os.path.realpath, options.trees):
         found = " | ".join(f"{it:.2f}" for it in row(tree, options))

@@ -21,7 +21,7 @@ import tempfile
 import time
 import zlib
 from pathlib import Path
-from typing import Any, Callable, Dict, FrozenSet, Iterator, List, NamedTuple, Optional, Sequence, Set, Tuple
+from typing import Any, Dict, FrozenSet, Iterable, Iterator, List, NamedTuple, Optional, Sequence, Set, Tuple
 
 from .. import __version__
 from ..compiling.compile_commands import CompileCommand
@@ -165,23 +165,14 @@ class Cache:
             with contextlib.suppress(*DAMAGED):
                 told = frozenset(it for one in was.units for it in job.told & one.files)
                 return answer_in(job.file, kept)._replace(included=told)
-        found, hash = self.judged(job, was)
-        if hash:
-            self.put_answer(job, found, hash)
-        return found
-
-    def judged(self, job: Job, was: Read) -> Tuple[Answer, str]:
-        """Returns what is found in a file now, and the hash of all that this was made from, or nothing if that changed
-        meanwhile.
-        """
         found = None
         with contextlib.suppress(Left), own_trouble():
             units = [read_unit(job, it) for it in job.commands]
             found = answer(job._replace(texts=[it.text for it in units]))
             # Where something is found, compilers ran again, and may have found other headers.
             if found.is_whole and self.is_as_it_was(job, was, units, bool(found.found)):
-                return found, was.hash
-        return found or answer(job), ""
+                self.put(self.path_of(job, asked_in(job), was.hash), fields_of(found))
+        return found or answer(job)
 
     def read(self, job: Job) -> Optional[Read]:
         """Returns what a file is now, or None if a compiler can't preprocess it."""
@@ -229,10 +220,6 @@ class Cache:
     def put(self, path: str, found: Any) -> None:
         """Keeps what is found in an entry."""
         self.write(path, encoded({"libraries": libraries(), "answer": found}))
-
-    def put_answer(self, job: Job, found: Answer, hash: str) -> None:
-        """Keeps the answer about a file that has a hash."""
-        self.put(self.path_of(job, asked_in(job), hash), fields_of(found))
 
     def write(self, path: str, data: bytes) -> None:
         """Writes an entry as a whole. If it can't be written, nothing is kept."""
@@ -359,15 +346,9 @@ def answer_and_keep(cache: Optional[Cache], job: Job) -> Answer:
     return found
 
 
-def answers_of(
-    jobs: Sequence[Job], cache: Optional[Cache], count: int, known: Callable[[Job], Optional[Answer]] = lambda it: None
-) -> Iterator[Answer]:
-    """Yields the answers about files in their order: those that are known, and the others by several processes."""
-    early = [known(it) for it in jobs]
-    rest = [job for job, it in zip(jobs, early) if it is None]
-    others = in_order(functools.partial(answer_and_keep, cache), rest, count, instead=answer_without)
-    for one in early:
-        yield next(others) if one is None else one
+def answers_of(jobs: Iterable[Job], cache: Optional[Cache], count: int) -> Iterator[Answer]:
+    """Yields the answers about files in their order, by several processes."""
+    yield from in_order(functools.partial(answer_and_keep, cache), jobs, count, instead=answer_without)
     if cache:
         cache.prune()
 

@@ -1,7 +1,6 @@
 """Says whether each printf format fits its call on every platform."""
 
 import collections
-import functools
 import gc
 from dataclasses import replace
 from typing import Any, Counter, Dict, FrozenSet, Iterable, Iterator, List, Optional, Sequence, Set, Tuple
@@ -10,7 +9,7 @@ from ..compiling.closure import Wrappers
 from ..compiling.libclang import MISSING, cindex
 from ..compiling.retargeting import write_headers
 from ..compiling.sources import Files
-from ..fitting.checking import Answer, Found, Job, Question
+from ..fitting.checking import Answer, Found, Job, Question, answer
 from ..fitting.fixing import WRONG
 from ..fitting.reporting import COMPOSED, RANK, RULES, SIGN, UNREAD, shown_file, with_source, with_wrapper
 from ..fitting.unit import Settings
@@ -22,8 +21,8 @@ from ..source.files import Unreadable
 from .baseline import Baseline
 from .cache import Cache, answers_of, cache_folder
 from .changes import GitChange, change_of
-from .jobs import jobs_of, name_files
 from .check_options import NAME, is_writing, parsed
+from .jobs import jobs_of, jobs_of_included, name_files
 from .wrapping import Search, Wrapped
 
 
@@ -65,14 +64,6 @@ def each_once(answers: Iterable[Answer]) -> Iterator[Answer]:
         yield Answer(file, {key: it.counted() for key, it in known.items()}, nothing, nothing, {})
 
 
-def known_answer(wrapped: Wrapped, cache: Optional[Cache], job: Job) -> Optional[Answer]:
-    """Returns the answer about a file that was judged to find functions, if they change nothing of it, and keeps it."""
-    known = wrapped.answer_of(job)
-    if known and known.answer and known.hash and cache:
-        cache.put_answer(job, known.answer, known.hash)
-    return known.answer if known else None
-
-
 def found_in(
     files: Files,
     question: Question,
@@ -91,9 +82,10 @@ def found_in(
     if change is None and search.jobs.keys() <= {it.file for it in jobs}:
         search.search_all()
         wrapped = search.wrapped()
-        known = functools.partial(known_answer, wrapped, cache)
-        return printer.progress.each(answers_of(known_by(jobs, wrapped), cache, options.jobs, known)), wrapped
+        return printer.progress.each(answers_of(known_by(jobs, wrapped), cache, options.jobs)), wrapped
     answers = list(printer.progress.each(answers_of(jobs, cache, options.jobs)))
+    left = list(jobs_of_included(answers, question, change))
+    jobs, answers = jobs + left, answers + list(map(answer, left))
     search.search_for(it for one in answers for it in one.called)
     wrapped = search.wrapped()
     changed = [at for at, one in enumerate(answers) if one.called & wrapped.wrappers.keys()]

@@ -2,14 +2,13 @@
 compiled: what is called in one may be in another.
 """
 
-import collections
 import contextlib
 import functools
 import gc
 import glob
 import os
 import re
-from typing import Any, Dict, FrozenSet, Iterable, List, Mapping, NamedTuple, Optional, Sequence, Set
+from typing import Any, Dict, FrozenSet, Iterable, List, NamedTuple, Optional, Sequence, Set
 
 from ..compiling.closure import Candidate, Handing, Wrappers, is_local, names_of_taking, needs_of, wrappers_among
 from ..compiling.compile_commands import SOURCES
@@ -17,7 +16,7 @@ from ..compiling.left import Left, own_trouble
 from ..compiling.pointers import ASSIGNED, is_value, names_at
 from ..compiling.sources import Files, Name
 from ..fitting.asking import job_of
-from ..fitting.checking import Answer, Job, Question, answer
+from ..fitting.checking import Job, Question
 from ..fitting.unit import candidates_of
 from ..frame.processes import in_order
 from ..source.files import bytes_of
@@ -30,9 +29,6 @@ POINTER = re.compile(r"\(\s*\*[^()]*\)\s*\([^;{}]*(?:\.\.\.|va_list)|typedef[^;{
 # After the name of a function that a text defines: its parameters, what macros say of it, and its body.
 BRACKETS = r"\((?:[^(){};]|\([^(){};]*\))*\)"
 BODY = re.compile(rf"\s*\)?\s*\((?:[^(){{}};]|{BRACKETS})*\)(?:[^;{{}}()=]|{BRACKETS})*\{{")
-# A definition of a function with further arguments, and a name that may be called.
-DEFINED = re.compile(r"(\w+)\s*\((?:[^(){};]|\([^(){};]*\))*\.\.\.\s*\)[^;{}]*\{")
-CALLED = re.compile(r"(\w+)\s*\(")
 # Functions of the C library that pointers are given: without those whose names are variables more often, as `error`.
 LOGGING = ("syslog", "vsyslog", "warnx", "vwarnx", "errx", "verrx")
 GIVEN = frozenset(it for it in KNOWN if it.endswith("printf") or it in LOGGING)
@@ -40,37 +36,20 @@ GIVEN = frozenset(it for it in KNOWN if it.endswith("printf") or it in LOGGING)
 
 class Facts(NamedTuple):
     """What is found in a file: functions that may hand their formats on, and what pointers are given; and the names of
-    variadic functions and of such pointers, if there are pointers; and the answer about it if it was judged, with the
-    hash of what this was made from, if that didn't change meanwhile.
+    variadic functions and of such pointers, if there are pointers.
     """
 
     candidates: Sequence[Candidate] = ()
     names: FrozenSet[str] = frozenset()
-    answer: Optional[Answer] = None
-    hash: str = ""
-
-
-class Searched(NamedTuple):
-    """A file that is searched, and whether it is judged, too."""
-
-    job: Job
-    is_judged: bool
 
 
 class Wrapped(NamedTuple):
     """The functions that hand their formats on, and the pointers that are given only such functions; and the names of
-    functions that take their arguments by themselves; and by their files what is found in those that were judged by
-    then.
+    functions that take their arguments by themselves.
     """
 
     wrappers: Wrappers = {}
     taking: FrozenSet[str] = frozenset()
-    early: Mapping[str, Facts] = {}
-
-    def answer_of(self, job: Job) -> Optional[Facts]:
-        """Returns what is found in a file, if it depends on none of these functions."""
-        known = self.early.get(job.file)
-        return known if known and known.answer and not known.answer.called & self.wrappers.keys() else None
 
 
 class Search:
@@ -86,19 +65,16 @@ class Search:
         """Returns what is known by the files that were searched."""
         listed = [it for path, one in self.facts.items() for it in qualified(path, one.candidates)]
         found = {key: it for key, it in wrappers_among(listed).items() if not is_local(key) and "|" not in key}
-        return Wrapped(found, frozenset(names_of_taking(listed)), self.facts)
+        return Wrapped(found, frozenset(names_of_taking(listed)))
 
     def search_all(self) -> None:
-        """Searches all files that may define such a function, and those that may give a pointer one, or another. What
-        is defined in no other file is judged, too, so that it isn't read again.
-        """
+        """Searches all files that may define such a function, and those that may give a pointer one, or another."""
         texts = {path: text_of(path) for path in self.jobs}
         is_any = any(POINTER.search(it) for it in texts.values())
         found = [path for path, text in texts.items() if MAY_DEFINE.search(text)]
-        alone = alone_among({it: texts[it] for it in found})
         is_first = True
         while found or is_first:
-            self.search(found, alone)
+            self.search(found)
             is_first, listed = False, [it for one in self.facts.values() for it in one.candidates]
             names = {it for one in self.facts.values() for it in one.names}
             values = GIVEN | {it.name for it in listed if (is_any or names) and not is_local(it.key)}
@@ -127,12 +103,11 @@ class Search:
             )
             waiting = {it for one in self.facts.values() for it in needs_of(one.candidates)}
 
-    def search(self, paths: Iterable[str], judged: FrozenSet[str] = frozenset()) -> None:
-        """Searches files, by several processes. Some are judged, too."""
-        listed = [Searched(self.jobs[it], it in judged) for it in paths]
+    def search(self, paths: Iterable[str]) -> None:
+        """Searches files, by several processes."""
+        listed = [self.jobs[it] for it in paths]
         found = in_order(functools.partial(search_and_keep, self.cache), listed, self.count, instead=nothing_of)
-        for one, facts in zip(listed, found):
-            self.facts[one.job.file] = facts
+        self.facts.update(zip((it.file for it in listed), found))
 
 
 def qualified(path: str, candidates: Sequence[Candidate]) -> List[Candidate]:
@@ -189,43 +164,26 @@ def has_body(text: str, names: Iterable[str]) -> bool:
     return any(BODY.match(text, end) for _, end in names_at(text, names))
 
 
-def alone_among(texts: Mapping[str, str]) -> FrozenSet[str]:
-    """Returns the files that seem to call no function with further arguments that another one defines: what is found in
-    them will most likely stay.
-    """
-    defined = {path: set(DEFINED.findall(text)) for path, text in texts.items()}
-    called = {path: set(CALLED.findall(text)) for path, text in texts.items()}
-    count = collections.Counter(name for names in defined.values() for name in names)
-    return frozenset(
-        path for path in texts if all(count[it] == int(it in defined[path]) for it in called[path] if it in count)
-    )
-
-
-def nothing_of(searched: Searched, how: str) -> Facts:
+def nothing_of(job: Job, how: str) -> Facts:
     """Returns what is known of a file that ends each process that reads it."""
     return Facts()
 
 
-def search_and_keep(cache: Optional[Cache], searched: Searched) -> Facts:
+def search_and_keep(cache: Optional[Cache], job: Job) -> Facts:
     """Returns what is kept of a file, or what is found in it now, which is kept if nothing changed meanwhile."""
-    found = kept_or_found(cache, *searched)
+    found = kept_or_found(cache, job)
     # The units that libclang parsed refer to themselves.
     gc.collect()
     return found
 
 
-def kept_or_found(cache: Optional[Cache], job: Job, is_judged: bool) -> Facts:
+def kept_or_found(cache: Optional[Cache], job: Job) -> Facts:
     was = cache.read(job) if cache else None
     path = cache.path_of(job, ("facts",), was.hash) if cache and was else ""
     kept = cache.get(path) if cache and path else None
     if kept is not None:
         with contextlib.suppress(*DAMAGED):
             return Facts([candidate_in(it) for it in kept[0]], frozenset(kept[1]))
-    if is_judged:
-        judged, hash = cache.judged(job, was) if cache and was else (answer(job), "")
-        if cache and hash:
-            cache.put(path, [judged.candidates, sorted(judged.names)])
-        return Facts(judged.candidates, judged.names, judged._replace(candidates=()), hash)
     units, candidates, names = [], [], set()
     for command in job.commands:
         try:

@@ -6,7 +6,6 @@ from dataclasses import replace
 from typing import Any, Counter, Dict, FrozenSet, Hashable, Iterator, List, NamedTuple, Optional, Sequence, Tuple
 
 from ..compiling.calls import Call
-from ..compiling.closure import Candidate
 from ..compiling.compile_commands import CompileCommand
 from ..compiling.left import Left, own_trouble
 from ..compiling.platforms import LLP64
@@ -146,8 +145,8 @@ class Answer(NamedTuple):
     """What is found in a file. `found` are the findings by what tells them apart in all units, `counts` how many
     formats and arguments were judged and calls weren't read, `others` the calls of functions that aren't known, by the
     option for each, and `fixes` new texts for the places of the file; and whether all of its units were read.
-    `called` are the keys of functions and pointers of other files that are called, or given formats; `candidates` and
-    `names` are what other files may call. `included` are the files in it that it was asked about.
+    `called` are the keys of functions and pointers of other files that are called, or given formats. `included` are the
+    files in it that it was asked about.
     """
 
     file: str
@@ -158,8 +157,6 @@ class Answer(NamedTuple):
     is_whole: bool = False
     called: FrozenSet[str] = frozenset()
     included: FrozenSet[str] = frozenset()
-    candidates: Sequence[Candidate] = ()
-    names: FrozenSet[str] = frozenset()
 
 
 class Job(NamedTuple):
@@ -210,12 +207,9 @@ def answer(job: Job) -> Answer:
             return result
         with own_trouble():
             fixes, units = fixes_in(result, job, silences)
-            candidates = tuple(dict.fromkeys(it for one in units for it in one.candidates))
             called = frozenset(it for one in units for it in one.needed())
-            names = frozenset(it for one in units for it in one.names)
             included = frozenset(it for one in units for it in job.told & one.files()) if job.told else job.told
-            result = result._replace(is_whole=True, called=called, candidates=candidates)
-            result = result._replace(names=names, included=included)
+            result = result._replace(is_whole=True, called=called, included=included)
     except Left as why:
         add_left(result, job.question, str(why))
     if len(fixes) < len(job.commands):

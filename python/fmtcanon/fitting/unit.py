@@ -69,7 +69,7 @@ class Unit:
         errors = first.errors()
         self.why_left: Optional[str] = errors[0] if errors else None
         self.unread, self.others = first.unread, first.others
-        self.candidates, self.called, self.names = first.candidates, first.called, first.names
+        self.candidates, self.called = first.candidates, first.called
         self.defined: Optional[bytes] = None
 
     def needed(self) -> Set[str]:

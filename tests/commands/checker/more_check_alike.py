@@ -39,12 +39,12 @@ BODIES = [
     '__typeof__(sizeof 1) n = 1; printf("%lu", n);',
     'wchar_t c = 1; printf("%d %lc %ls", c, c, &c);',
     'wchar_t c = 1; if (NULL) printf("%d", c);',
-    'wchar_t c = 1, s[] = {1}; struct { wchar_t c; wint_t *p; } w = {0}; printf("%d %d %d %d", c + 1, s[0], w.c, '
-    '*w.p);',
+    'wchar_t c = 1, s[] = {1}; struct { wchar_t c; wint_t *p; } w = {0}; '
+    'printf("%d %d %d %d", c + 1, s[0], w.c, *w.p);',
     'wchar_t c = 1; typedef wchar_t own_t; own_t d = c; int n = c; printf("%d %d %d %ld", d, n, (int)c, n ? 1l : d);',
     'wchar_t c = 1; __typeof__(c) d = c; __auto_type e = c; printf("%d %u", d, 1u); printf("%d", e);',
-    'wint_t c = 1; wchar_t s[] = {1}; printf("%u %d %d", towlower(c), *wcschr(s, 1), (int)wcslen(s)); printf("%d", '
-    'btowc(1));',
+    'wint_t c = 1; wchar_t s[] = {1}; printf("%u %d %d", towlower(c), *wcschr(s, 1), (int)wcslen(s)); '
+    'printf("%d", btowc(1));',
     'wchar_t c = 1; size_t n = 1; printf("%zu %ld %zu", n + c, c + 1l, c ? n : 1); printf("%d", c == 1);',
     'wchar_t c = 1; printf("%d %s %c %.*s", 1, "x", 2, 3, "y"); (void) c;',
     'wchar_t c = 1; enum { A = sizeof c } a = A; int n[sizeof c] = {0}; printf("%d %d %d %zu", A, a, n[c], sizeof c);',
@@ -94,12 +94,12 @@ BODIES += [
     'size_t n[2] = {1}, *p = n; printf("%lu %lu", *(1 ? p : 0), 1[p]);',
     'size_t f(void), (*g)(void) = f; printf("%lu %lu", f(), g());',
     'size_t n = 1, m = 2; int i = 1; printf("%zu %lu %d %lx", n + 1, n * m - 1, (n - i) / 2, -n); printf("%lu", ~n);',
-    'size_t n = 1; unsigned u = 1; long l = 1; printf("%zu %zu %zu %zu", n + u, n + l, n << u, n ? n : u); '
-    'printf("%lu", n - 1ul);',
+    'size_t n = 1; unsigned u = 1; long l = 1; '
+    'printf("%zu %zu %zu %zu", n + u, n + l, n << u, n ? n : u); printf("%lu", n - 1ul);',
     'ssize_t n = 1; unsigned u = 1; short s = 1; printf("%zd %zd %zd %ld", n + s, n + u, n % 3, (n, n)); '
     'printf("%zd", n = 2);',
-    'uint64_t n = 1; int64_t m = 1; size_t k = 1; printf("%lu %ld %lu %lu", n | 1, m & 3, n ^ m, n + k); printf("%d", '
-    'n && m);',
+    'uint64_t n = 1; int64_t m = 1; size_t k = 1; printf("%lu %ld %lu %lu", n | 1, m & 3, n ^ m, n + k); '
+    'printf("%d", n && m);',
     'size_t n = 1, *p = &n; printf("%zu %zu %zu %zu", *p + 1, p[0] - n, n++ + 1, sizeof n * 2 + strlen("x"));',
     'time_t a = 1, b = 2; printf("%ld %ld", a - b, (a - b) / 60); ptrdiff_t d = 1; printf("%td", d + 1);',
     'int a[2]; printf("%d %d", __builtin_types_compatible_p(__typeof__(a), __typeof__(&(a)[0])), a[1]);',

@@ -80,6 +80,25 @@ def test_formats_in_headers():
 
 
 @held
+def test_an_included_file_that_is_staged_in_part():
+    """With --cached, an included file of any ending that isn't judged as it is staged is named, and no other file."""
+    table = 'void f(size_t n) { printf("%zu\\n", n); }\n'
+    folder = Folder()
+    folder.committed(a_c=HEAD + '#include "m.tbl"\n')
+    folder.put("m.tbl", table)
+    folder.put("notes.tbl", table)
+    folder.database("cc")
+    for text in (table.replace("%zu", "%d"), table):
+        folder.put("m.tbl", text)
+        folder.put("notes.tbl", text)
+        if text != table:
+            folder.git("add", "m.tbl", "notes.tbl")
+    done = folder.run("check", "-p", ".", "--git", "--cached")
+    is_said = "m.tbl:1: warning: not judged: a header has changes that aren't staged" in done[1]
+    return (done[0] == 2 and is_said and "notes.tbl" not in done[1]) or str(done)
+
+
+@held
 def test_baseline_of_platforms():
     """A call known as wrong on one platform breaks on another."""
     folder = Folder()
