@@ -11,7 +11,7 @@ from .line_markers import SPACE
 # Bytes above ASCII are in names alone.
 LETTER, BYTE = r"[A-Za-z_$\x80-\xff]", r"[\w$\x80-\xff]"
 WORD = rf"(?<!{BYTE}){LETTER}{BYTE}*"
-NAME = re.compile(WORD)
+NAME, REST = re.compile(WORD), re.compile(rf"{BYTE}*")
 # The end of the parameters of a variadic function, or in C++ of a pack of arguments; what is before the former.
 VARIADIC = re.compile(rf"\.\.\.{SPACE}\)")
 BEFORE_DOTS, LONGEST_SPACE = (",", "("), 80
@@ -70,10 +70,12 @@ def after_names(own: str, names: AbstractSet[str], stems: Sequence[str]) -> Iter
     for stem in stems:
         at = own.find(stem)
         while at >= 0:
-            start, end = name_around(own, at)
-            found = OPENING.match(own, end)
-            if found and own[start:end] in names:
-                yield found.end() - 1
+            # Most names are not called: where one begins is looked for last.
+            found = REST.match(own, at)
+            end = found.end() if found else at + len(stem)
+            opening = OPENING.match(own, end)
+            if opening and own[start_of(own, at) : end] in names:
+                yield opening.end() - 1
             at = own.find(stem, end)
 
 
@@ -86,14 +88,11 @@ def stems_of(names: Iterable[str]) -> List[str]:
     return stems
 
 
-def name_around(text: str, at: int) -> Tuple[int, int]:
-    """Returns where the name begins and ends that has this offset in it."""
-    start = end = at
-    while start and is_byte(text[start - 1]):
-        start -= 1
-    while end < len(text) and is_byte(text[end]):
-        end += 1
-    return start, end
+def start_of(text: str, at: int) -> int:
+    """Returns where the name begins that has this offset in it."""
+    while at and is_byte(text[at - 1]):
+        at -= 1
+    return at
 
 
 def is_byte(character: str) -> bool:

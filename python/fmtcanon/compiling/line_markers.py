@@ -3,7 +3,7 @@
 import functools
 import os
 import re
-from typing import List, Set, Tuple
+from typing import List, Sequence, Set, Tuple
 
 from .. import BadLiteral, decode_literal
 
@@ -16,7 +16,8 @@ MARKER_IN_BYTES = re.compile(MARKER.pattern.encode())
 SPACE = r"(?:\s|(?<=\n)# \d+ [^\n]*)*"
 
 
-def markers(text: str) -> List[Tuple[int, int, str, str]]:
+@functools.lru_cache(maxsize=4)
+def markers(text: str) -> Sequence[Tuple[int, int, str, str]]:
     """Returns where the markers of a text begin and end, their files and their flags."""
     return [(it.start(), it.end() - 1, it[2], it[3]) for it in MARKER.finditer("\n" + text)]
 
