@@ -8,7 +8,7 @@ import re
 
 from bench import charts, formats
 from fmtcanon.compiling.platforms import PLATFORMS
-from fmtcanon.diff import judging
+from fmtcanon.diff import pair_judging
 from fmtcanon.fitting import reporting
 from fmtcanon.kinds import Kind, LiteralKind, Type
 from fmtcanon.words import WORDS
@@ -406,9 +406,9 @@ def test_kinds_of_findings(trials):
     trials.expect("with options", {it: found[it] for it in added}, {it: f"with `--{it}`, as a note" for it in added})
     rows = table_of(DOCS / "REFACTORING.md", "What a change does")
     names = [name for row in rows for name in re.findall(r"`(\w+)`", row[0])]
-    wanted = {*judging.RULES, reporting.SIZE, reporting.KIND} - {"same"}
+    wanted = {*pair_judging.RULES, reporting.SIZE, reporting.KIND} - {"same"}
     trials.expect("kinds of fmtcanon-diff", set(names), wanted)
-    faults = [*judging.FAULTS, reporting.SIZE, reporting.KIND]
+    faults = [*pair_judging.FAULTS, reporting.SIZE, reporting.KIND]
     page = " ".join(section(DOCS / "REFACTORING.md", "What a change does").split())
     trials.expect("faults come first", set(names[: len(faults)]), set(faults))
     trials.expect("how many", "if there is one of the first six kinds" in page and len(faults), 6)

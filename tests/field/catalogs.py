@@ -20,7 +20,7 @@ from tempfile import TemporaryDirectory
 
 import fmtcanon
 from fmtcanon.frame.findings import as_text
-from fmtcanon.catalogs.checking import Checker
+from fmtcanon.catalogs.catalog_checking import Checker
 from tests.commands.catalogs.more_catalogs import translation_line
 
 ENVIRONMENT = {**os.environ, "LC_ALL": "C", "LANGUAGE": ""}

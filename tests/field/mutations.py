@@ -20,7 +20,7 @@ from pathlib import Path
 
 import fmtcanon
 from fmtcanon.frame.findings import as_text
-from fmtcanon.catalogs.checking import Checker
+from fmtcanon.catalogs.catalog_checking import Checker
 from tests.frame.harness import TOP
 
 COUNT = 40_000

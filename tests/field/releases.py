@@ -14,7 +14,7 @@ from collections import Counter
 from pathlib import Path
 
 from fmtcanon import Model
-from fmtcanon.diff.reporting import DiffQuestion, report_on
+from fmtcanon.diff.diff_reports import DiffQuestion, report_on
 from fmtcanon.diff.trees import changes_of
 from fmtcanon.frame.findings import as_text
 from fmtcanon.frame.processes import in_order

@@ -21,7 +21,7 @@ from fmtcanon.compiling.compile_commands import SOURCES, commands_in
 from fmtcanon.compiling.left import Left
 from fmtcanon.compiling.stand_ins import original
 from fmtcanon.compiling.functions import Functions
-from fmtcanon.rewriting.files import Change, File, put_in_place
+from fmtcanon.rewriting.rewritten_files import Change, File, put_in_place
 from fmtcanon.source.respelling import respelled, runs_in
 from tests.field.sources import is_accepted
 

@@ -18,7 +18,7 @@ from fmtcanon.compiling.compile_commands import SOURCES, commands_in
 from fmtcanon.compiling.left import Left
 from fmtcanon.compiling.stand_ins import original
 from fmtcanon.compiling.functions import Functions
-from fmtcanon.rewriting.files import Change, File
+from fmtcanon.rewriting.rewritten_files import Change, File
 from fmtcanon.source.respelling import runs_in
 
 TRANSLATORS = "it is a key for translators"

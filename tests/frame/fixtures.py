@@ -65,6 +65,27 @@ def prepared(kind):
         one.doCleanups()
 
 
+class InFolder(unittest.TestCase):
+    """The assertions of unittest, and a folder, `work`, that is empty and gone after the test."""
+
+    def setUp(self):
+        folder = tempfile.TemporaryDirectory()
+        self.addCleanup(folder.cleanup)
+        self.work = Path(folder.name).resolve()
+
+    def enter(self):
+        """Makes the folder the current one."""
+        self.addCleanup(os.chdir, os.getcwd())
+        os.chdir(self.work)
+
+    def put(self, name, text="old\n"):
+        """Writes a file, and returns its path."""
+        file = self.work / name
+        file.parent.mkdir(parents=True, exist_ok=True)
+        file.write_text(text, encoding="utf-8")
+        return str(file)
+
+
 def work():
     """A folder that is empty, and gone after the test."""
     with tempfile.TemporaryDirectory() as name:

@@ -5,7 +5,7 @@ import struct
 from typing import Dict, Iterator, List, NamedTuple, Optional, Tuple
 
 from .charsets import Charset, Unknown, charset_named
-from .tokens import BadCatalog, Token, tokens, unquoted
+from .catalog_tokens import BadCatalog, Token, tokens, unquoted
 
 MAGIC = {b"\xde\x12\x04\x95": "<", b"\x95\x04\x12\xde": ">"}
 # Such a file has strings that depend on the machine, with the number of them here.

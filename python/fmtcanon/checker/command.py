@@ -21,8 +21,8 @@ from ..source.files import Unreadable
 from .baseline import Baseline
 from .cache import Cache, answers_of, cache_folder
 from .changes import GitChange, change_of
+from .check_options import NAME, is_writing, parsed
 from .jobs import jobs_of, jobs_of_included, name_files
-from .options import NAME, is_writing, parsed
 from .wrapping import Search, Wrapped
 
 

@@ -9,10 +9,10 @@ from ..fitting.checking import Answer, Found
 from ..fitting.reporting import RULES, as_fixed, as_not_written, shown_file, with_source
 from ..frame.findings import Finding, leveled
 from ..models import Model
-from ..rewriting.files import Change
+from ..rewriting.rewritten_files import Change
 from ..rewriting.rewriter import Report, Rewriter, Scanned, change_to
 from ..source.respelling import runs_in
-from .options import NAME
+from .check_options import NAME
 
 
 class Fixer(Rewriter):

@@ -16,8 +16,8 @@ from ..frame.interrupting import temporary_folder
 from ..frame.processes import in_order
 from ..frame.visible import visible
 from ..source.files import Unreadable
-from .compiled import Fitting
-from .reporting import FAULTS, RULES, DiffQuestion, DiffReport, report_on, report_without
+from .call_fitting import Fitting
+from .diff_reports import FAULTS, RULES, DiffQuestion, DiffReport, report_on, report_without
 from .trees import changes_of
 
 NAME = "fmtcanon-diff"

@@ -16,7 +16,7 @@ from .composing import is_composed
 from .fixing import WRONG, Fixes, fixes_of, merged
 from .judging import ErrnoFormat, Fault, Judged, judged
 from .locating import Located, located
-from .macros import Macros
+from .fault_macros import Macros
 from .proposals import proposal
 from .reporting import COMPOSED, ERRNO, LOST, RANK, SIGN, SIZE, UNREAD, UNUSED, Spot
 from .silencing import Silences

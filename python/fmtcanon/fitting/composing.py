@@ -5,6 +5,7 @@ is a PRI macro that the source names next to it, or a macro of the program that 
 import re
 from typing import Callable, Optional, Set
 
+from ..source.directives import definition_at
 from ..source.tokens import GAP, NAME, STRING
 from .judging import Fault
 from .locating import Located
@@ -13,8 +14,6 @@ from .unit import Unit
 NEXT_NAME = re.compile(GAP + rb"(" + NAME + rb")")
 # A macro that is literals and names alone, as formats and parts of these are.
 DEFINITION = re.compile(rb"^#define (\w+)((?:[ \t]+(?:" + STRING + rb"|[A-Za-z_]\w*))+)[ \t]*$", re.MULTILINE)
-# A line of a source that the preprocessor takes: its first word, with the lines that are spliced to it.
-DIRECTIVE = re.compile(rb"^[ \t]*#[ \t]*(\w+)(?:[^\\\n]|\\[\s\S])*", re.MULTILINE)
 
 
 def is_composed(fault: Fault, unit: Unit, located: Callable[[], Optional[Located]]) -> bool:
@@ -30,18 +29,9 @@ def is_composed(fault: Fault, unit: Unit, located: Callable[[], Optional[Located
     source = where.file.source
     after = NEXT_NAME.match(source, piece.place.end)
     if after is None or after[1] in macros:
-        return is_chosen(source, piece.place.start)
+        definition = definition_at(source, piece.place.start)
+        return definition is not None and definition.depth > 0
     return after[1] in own_macros(unit, macros)
-
-
-def is_chosen(source: bytes, offset: int) -> bool:
-    """Returns whether an offset is in the definition of a macro that `#if` chooses."""
-    depth = 0
-    for found in DIRECTIVE.finditer(source):
-        if found.end() > offset:
-            return depth > 0 and found[1] == b"define" and found.start() <= offset
-        depth += found[1].startswith(b"if") - (found[1] == b"endif")
-    return False
 
 
 def own_macros(unit: Unit, macros: Set[bytes]) -> Set[bytes]:

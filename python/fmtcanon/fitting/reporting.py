@@ -19,7 +19,7 @@ from ..source.files import known_bytes, lines_in
 from ..source.places import column_of
 from .judging import MISSING, ORDER, SIGNED, ErrnoFormat, Fault, Fit, RefusedFormat
 from .locating import Located
-from .macros import Definition, macro_at, span_of
+from .fault_macros import Definition, macro_at, span_of
 from .proposals import fitting, proposal
 
 SIZE, KIND, RANK, SIGN, COMPOSED = "size", "kind", "rank", "sign", "composed"

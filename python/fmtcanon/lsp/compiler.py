@@ -6,7 +6,7 @@ import time
 from typing import Any, List, Optional
 
 from ..frame.processes import GRACE, Worker, started, wait_or_kill
-from .compiled import CompiledAnswer
+from .compiled_findings import CompiledAnswer
 from .worker import CompiledText, CompileWorker, remove
 
 

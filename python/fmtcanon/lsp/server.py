@@ -10,7 +10,7 @@ from typing import Any, Callable, Deque, Dict, List, Mapping, Optional, Set, Tup
 
 from .. import __version__
 from ..frame.output import complain, write
-from .compiling import Compiling
+from .compile_queue import Compiling
 from .diagnosing import HINT, UNNECESSARY, WARNING, Diagnosis, SourceFix, TextEdit
 from .documents import UTF_8, UTF_16, Document, path_of
 from .framing import (
@@ -25,7 +25,7 @@ from .framing import (
     RemoteMessage,
     framed,
 )
-from .options import Options, options_of
+from .editor_options import Options, options_of
 from .views import CatalogView, DocumentView, SourceView, view_of
 
 NAME = "fmtcanon"

@@ -4,19 +4,19 @@ import os
 import time
 from typing import Any, Dict, Iterator, List, Optional, Tuple
 
-from ..catalogs.checking import Right
+from ..catalogs.catalog_checking import Right
 from ..compiling.compile_commands import SOURCES
 from ..formats.layout import as_source
 from ..models import Model
 from ..source.declared import Shapes, declared_for, declared_in
 from ..source.written import WrittenFormat, WrittenSource
-from . import calls, catalogs, diagnosing
-from .catalogs import Hover
-from .compiled import CompiledPart, after, diagnosis_of, fixes_of, is_said_by
+from . import argument_help, diagnosing, open_catalogs
+from .open_catalogs import Hover
+from .compiled_findings import CompiledPart, after, diagnosis_of, fixes_of, is_said_by
 from .diagnosing import Diagnosis, SourceFix
 from .documents import Document
 from .markdown import about_directive, about_format, one_line
-from .options import Options
+from .editor_options import Options
 
 # Seconds after the last change until a document is read again, or this many times as long as that took.
 SOON, REST = 0.1, 3
@@ -186,10 +186,10 @@ class SourceView(DocumentView):
         return Hover(about_directive(one.part, self.model, given, source), (one.start, one.end))
 
     def signature(self, offset: int) -> Optional[Dict[str, Any]]:
-        return calls.signature(self.near(offset), offset, self.model)
+        return argument_help.signature(self.near(offset), offset, self.model)
 
     def highlighted(self, offset: int) -> List[Tuple[int, int]]:
-        return calls.highlighted(self.near(offset), self.document.data, offset)
+        return argument_help.highlighted(self.near(offset), self.document.data, offset)
 
     def fixes(self, start: int, end: int) -> Iterator[Tuple[Diagnosis, SourceFix]]:
         for format in self.near(start).formats():
@@ -211,17 +211,17 @@ class CatalogView(DocumentView):
         self.right: Right = set()
 
     def diagnoses(self) -> Iterator[Optional[Diagnosis]]:
-        return catalogs.diagnoses_of(self.document, LONGEST, self.options.models, self.right)
+        return open_catalogs.diagnoses_of(self.document, LONGEST, self.options.models, self.right)
 
     def hover(self, offset: int) -> Optional[Hover]:
-        return catalogs.hover_at(self.document, offset, self.model)
+        return open_catalogs.hover_at(self.document, offset, self.model)
 
     def fixes(self, start: int, end: int) -> Iterator[Tuple[Diagnosis, SourceFix]]:
         # After a change the faults are found again first: their offsets are those of the text before it.
         if self.is_read:
             for one in self.found:
                 for it in one.fixes if one.start <= end and start <= one.end else ():
-                    if catalogs.helps(self.document, it, self.options.models):
+                    if open_catalogs.helps(self.document, it, self.options.models):
                         yield one, it
 
 

@@ -19,7 +19,7 @@ from ..frame.interrupting import CLEANING
 from ..models import Model
 from ..source.files import known_bytes
 from ..source.known import Shape
-from .compiled import CompiledAnswer, FindingAt
+from .compiled_findings import CompiledAnswer, FindingAt
 from .databases import Databases, absolute_path
 from .documents import UTF_8, Document
 

@@ -13,7 +13,7 @@ from ..frame.output import Unwritable
 from ..frame.processes import in_order
 from ..models import Model
 from ..source import files as source_files
-from ..catalogs.checking import RULES, UNJUDGED, Checker, Right
+from ..catalogs.catalog_checking import RULES, UNJUDGED, Checker, Right
 
 NAME = "fmtcanon-po"
 # Up to fewer catalogs than these are read by one process.

@@ -15,7 +15,7 @@ from ..models import Model
 from ..rewriting.writing import replace
 from ..source.files import Unreadable, read
 from . import listing
-from .options import NAME, parsed
+from .replace_options import NAME, parsed
 from .pairs import Wrong
 from .replacer import Replacer
 

@@ -7,11 +7,11 @@ from ..compiling.sources import Files, Name
 from ..frame.command_line import MODELS, model_names
 from ..frame.excerpts import Excerpt, line_of, literal_excerpt
 from ..frame.findings import NOTE, WARNING, Finding
-from ..rewriting.files import Change
+from ..rewriting.rewritten_files import Change
 from ..rewriting.rewriter import Report, Rewriter, change_to
 from ..source.places import column_of
 from ..source.respelling import LiteralRun, runs_in, span_in
-from .options import NAME, REPLACED, RULES, SKIPPED
+from .replace_options import NAME, REPLACED, RULES, SKIPPED
 from .pairs import Pairs
 
 

@@ -14,7 +14,7 @@ from ..frame.findings import Finding
 from ..frame.progress import Progress
 from ..models import Model
 from ..source.respelling import LiteralRun, respelled
-from .files import Change, File
+from .rewritten_files import Change, File
 from .units import Units, units_of
 
 

@@ -13,7 +13,7 @@ from ..frame.findings import Printer, by_place
 from ..frame.interrupting import LOOK, Interrupted, Signals, clean, end, interruptible
 from ..frame.output import Unwritable, complain, write
 from ..rewriting.rewriter import Report
-from .files import put_in_place
+from .rewritten_files import put_in_place
 from .rewriter import Rewriter
 
 _Result = TypeVar("_Result")

@@ -78,7 +78,7 @@ FIELDS = [
 
 def test_headers(module, msgfmt, trials):
     """Both demand of a header that it says which form is for a number, if a translation has forms."""
-    from fmtcanon.catalogs.checking import Checker
+    from fmtcanon.catalogs.catalog_checking import Checker
 
     entries = {
         True: 'msgid "a"\nmsgid_plural "b"\nmsgstr[0] "c"\nmsgstr[1] "d"\n',
@@ -101,7 +101,7 @@ def test_headers(module, msgfmt, trials):
 
 def test_counts(module, msgfmt, trials):
     """Both find that there are more or fewer forms than the header says."""
-    from fmtcanon.catalogs.checking import PLURALS, Checker
+    from fmtcanon.catalogs.catalog_checking import PLURALS, Checker
 
     generator, seen = random.Random(SEED), set()
     for said, count, first in itertools.product(range(1, 5), range(1, 5), ["", "#, fuzzy\n"]):
@@ -124,7 +124,7 @@ def test_counts(module, msgfmt, trials):
 
 def test_plurals(module, msgfmt, trials):
     """Both find faults in the same messages."""
-    from fmtcanon.catalogs.checking import Checker
+    from fmtcanon.catalogs.catalog_checking import Checker
     from fmtcanon.frame.findings import as_text
 
     generator = random.Random(SEED)

@@ -15,9 +15,9 @@ from pathlib import Path
 import fmtcanon
 from fmtcanon import Model
 from fmtcanon.catalogs.charsets import charset_named
-from fmtcanon.catalogs.formats import DEPENDENT, MessageFormat, shape_of
+from fmtcanon.catalogs.message_formats import DEPENDENT, MessageFormat, shape_of
 from fmtcanon.catalogs.reading import PoReader
-from fmtcanon.catalogs.tokens import BadCatalog
+from fmtcanon.catalogs.catalog_tokens import BadCatalog
 from fmtcanon.formats.rejections import instead_of, refused_span
 
 from tests.frame.cases import tests_of

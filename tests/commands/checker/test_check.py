@@ -12,14 +12,14 @@ from pathlib import Path
 
 import fmtcanon
 from fmtcanon import Model, Type
-from fmtcanon.checker import options
+from fmtcanon.checker import check_options
 from fmtcanon.compiling.calls import Argument, Call
 from fmtcanon.compiling.formats import Format, Literal
 from fmtcanon.compiling.markers import Marker
 from fmtcanon.compiling.platforms import PLATFORMS
 from fmtcanon.compiling.retargeting import retargeted, write_headers
 from fmtcanon.compiling.stand_ins import Original
-from fmtcanon.diff import compiled
+from fmtcanon.diff import call_fitting
 from fmtcanon.fitting import composing, fixing, proposals, reporting
 from fmtcanon.fitting.judging import Fit, fit_of, judged
 from fmtcanon.source.known import Shape
@@ -443,7 +443,7 @@ def test_source(case):
 
 def test_fitting(case):
     found = Finding("a.c", 3, 10, "types", "error", "wrong", (3, 20), ("%d", "%zu"))
-    note = compiled.as_note(found)
+    note = call_fitting.as_note(found)
     case.assertEqual((note.level, note.message), ("note", 'types differ, and the call fits: "%d" and "%zu"'))
 
 
@@ -577,14 +577,14 @@ def test_markers(case):
 def refused(case, *words):
     with contextlib.redirect_stderr(io.TextIOWrapper(io.BytesIO())) as stream:
         with case.assertRaises(SystemExit) as raised:
-            options.parsed(words)
+            check_options.parsed(words)
     stream.seek(0)
     return raised.exception.code, stream.read().splitlines()[-1]
 
 
 def test_words(case):
     words = ["--function", "failf:2:3", "--type", "counter_t=uint64_t", "--rank", "a.c", "--", "-b.c"]
-    found = options.parsed(words)
+    found = check_options.parsed(words)
     case.assertEqual((found.function, found.type), ([("failf", Shape(1, 2))], [("counter_t", "uint64_t")]))
     case.assertEqual((found.files, found.rank, found.sign), (["a.c", "-b.c"], True, False))
 

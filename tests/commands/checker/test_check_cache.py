@@ -4,7 +4,6 @@ import gc
 import multiprocessing
 import os
 import random
-import tempfile
 import time
 import unittest
 import weakref
@@ -25,7 +24,7 @@ from fmtcanon.frame.findings import Finding
 from fmtcanon.source.known import Shape
 
 from tests.frame.cases import tests_of
-from tests.frame.fixtures import prepared
+from tests.frame.fixtures import InFolder, prepared
 
 # Files with other texts, or None for one that goes; and whether the answer is still right.
 CHANGES = [
@@ -60,13 +59,10 @@ def answer_for(file):
     return Answer(file, found, Counter(files=1, formats=2), Counter({"log:1": 3}), fixes)
 
 
-class InFolder(unittest.TestCase):
+class WithCache(InFolder):
     def setUp(self):
-        folder = tempfile.TemporaryDirectory()
-        self.addCleanup(folder.cleanup)
-        self.work = Path(os.path.realpath(folder.name))
-        self.addCleanup(os.chdir, os.getcwd())
-        os.chdir(self.work)
+        super().setUp()
+        self.enter()
         asked = "#if __has_include(<asked.h>)\nint asked;\n#endif\n"
         self.put(
             "src/a.c",
@@ -81,12 +77,6 @@ class InFolder(unittest.TestCase):
         os.mkdir("kept")
         # How often a file was judged.
         self.judged = 0
-
-    def put(self, name, text):
-        file = self.work / name
-        file.parent.mkdir(parents=True, exist_ok=True)
-        file.write_text(text)
-        return str(file)
 
     def job(self, **more):
         given = more.pop("functions", {}), more.pop("types", {})
@@ -113,7 +103,7 @@ class InFolder(unittest.TestCase):
 
 
 def here():
-    yield from prepared(InFolder)
+    yield from prepared(WithCache)
 
 
 def handing_on(line):

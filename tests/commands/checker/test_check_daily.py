@@ -12,7 +12,7 @@ from pathlib import Path
 from unittest import mock
 
 from fmtcanon import Type
-from fmtcanon.checker import command, options
+from fmtcanon.checker import check_options, command
 from fmtcanon.checker.baseline import Baseline
 from fmtcanon.checker.changes import GitChange, changed_lines
 from fmtcanon.compiling.calls import Argument, Call
@@ -20,7 +20,7 @@ from fmtcanon.compiling.formats import Format, Literal
 from fmtcanon.compiling.git import FileChange
 from fmtcanon.fitting.checking import Answer, CallLines, Found
 from fmtcanon.fitting.judging import judged
-from fmtcanon.fitting.macros import Macros, definitions_in, macro_at
+from fmtcanon.fitting.fault_macros import Macros, definitions_in, macro_at
 from fmtcanon.fitting.silencing import Silences, comments_of
 from fmtcanon.frame.findings import Finding
 from fmtcanon.source.comments import ok_comments
@@ -230,10 +230,10 @@ def test_fixes(case):
 
 
 def test_numbers(case):
-    case.assertEqual([options.shard_of(it) for it in ("1/1", "2/3", "10/10")], [(1, 1), (2, 3), (10, 10)])
+    case.assertEqual([check_options.shard_of(it) for it in ("1/1", "2/3", "10/10")], [(1, 1), (2, 3), (10, 10)])
     for word in ("0/2", "3/2", "1", "1/", "-1/2", "1/0", "a/b", "1/2/3", "01/2"):
         with case.assertRaises(argparse.ArgumentTypeError, msg=word):
-            options.shard_of(word)
+            check_options.shard_of(word)
 
 
 class Baselines(unittest.TestCase):

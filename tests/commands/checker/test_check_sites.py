@@ -1,7 +1,4 @@
-"""Tests of where calls of functions with formats may be in preprocessed text, without libclang: python3 -m unittest, in
-the folder above.
-"""
-
+"""Tests of where calls of functions with formats may be in preprocessed text, without libclang."""
 
 from fmtcanon.compiling.call_sites import call_sites, declared_names, names_in
 from fmtcanon.compiling.retargeting import own_spans

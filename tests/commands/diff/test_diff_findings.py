@@ -9,7 +9,7 @@ from dataclasses import replace
 
 import fmtcanon
 from fmtcanon import Model, Type
-from fmtcanon.diff.judging import RULES, judge
+from fmtcanon.diff.pair_judging import RULES, judge
 from fmtcanon.diff.pairing import paired
 from fmtcanon.formats.verdicts import (
     PairKind,

@@ -3,7 +3,7 @@
 
 from fmtcanon import Model, Type
 from fmtcanon.compiling.sources import NO_COMMAND
-from fmtcanon.diff.compiled import Compiled, JudgedUse
+from fmtcanon.diff.call_fitting import Compiled, JudgedUse
 from fmtcanon.fitting.checking import Question
 from fmtcanon.fitting.unit import Settings
 from fmtcanon.frame.findings import Finding

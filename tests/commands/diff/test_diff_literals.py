@@ -3,7 +3,7 @@
 import time
 
 from fmtcanon import Model
-from fmtcanon.diff.judging import is_judged
+from fmtcanon.diff.pair_judging import is_judged
 from fmtcanon.diff.pairing import matching, paired
 from fmtcanon.source.macros import PlacePart, expansion
 from fmtcanon.source.places import EnclosingCall, Position, Source

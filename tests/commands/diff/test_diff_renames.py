@@ -4,7 +4,6 @@ import os
 import random
 import shutil
 import subprocess
-import tempfile
 import time
 import unittest
 from pathlib import Path
@@ -17,7 +16,7 @@ from fmtcanon.diff.trees import changes_of
 from fmtcanon.source.files import Unreadable
 
 from tests.frame.cases import tests_of
-from tests.frame.fixtures import prepared
+from tests.frame.fixtures import InFolder, prepared
 
 # The seconds that git may take here, and those in which what it runs has ended.
 LIMIT, SOON = 0.5, 60
@@ -25,29 +24,20 @@ IDENTITY = {f"GIT_{who}_{what}": "a@b" for who in ["AUTHOR", "COMMITTER"] for wh
 NO_CONFIGURATION = {f"GIT_CONFIG_{it}": os.devnull for it in ["GLOBAL", "SYSTEM"]}
 
 
-class InFolder(unittest.TestCase):
+class WithGit(InFolder):
     def setUp(self):
-        folder = tempfile.TemporaryDirectory()
-        self.addCleanup(folder.cleanup)
-        self.work = Path(os.path.realpath(folder.name))
-        self.addCleanup(os.chdir, os.getcwd())
-        os.chdir(self.work)
+        super().setUp()
+        self.enter()
         environment = mock.patch.dict(os.environ, {**IDENTITY, **NO_CONFIGURATION})
         environment.start()
         self.addCleanup(environment.stop)
-
-    def put(self, name, text):
-        file = self.work / name
-        file.parent.mkdir(parents=True, exist_ok=True)
-        file.write_text(text)
-        return file
 
     def git(self, *words):
         subprocess.run(["git", *words], check=True, stdout=subprocess.DEVNULL, timeout=60)
 
 
 def here():
-    yield from prepared(InFolder)
+    yield from prepared(WithGit)
 
 
 @unittest.skipUnless(shutil.which('git'), 'it needs git')
@@ -75,7 +65,7 @@ def test_git_waits(here):
     os.environ["PATH"] = f"{here.work}/bin:{path}"
     for command in ["rev-parse", "diff-index", "cat-file"]:
         script = f'#!/bin/sh\ncase "$*" in *{command}*) sleep 1000 & sleep 1000;; *) exec {real} "$@";; esac\n'
-        here.put("bin/git", script).chmod(0o755)
+        os.chmod(here.put("bin/git", script), 0o755)
         here.assertEqual(soon(here), f"git took more than {LIMIT} seconds", command)
 
 
@@ -97,7 +87,7 @@ def test_hostile_configuration(here):
     for name in ["diff.external", "diff.mine.command", "core.fsmonitor", "core.pager", "diff.mine.xfuncname"]:
         here.git("config", name, ran)
     for hook in ["post-index-change", "pre-commit", "fsmonitor-watchman"]:
-        here.put(f".git/hooks/{hook}", f"#!/bin/sh\n{ran}\n").chmod(0o755)
+        os.chmod(here.put(f".git/hooks/{hook}", f"#!/bin/sh\n{ran}\n"), 0o755)
     os.utime("b.c", (1, 1))
     Path("ran").unlink(missing_ok=True)
     for is_cached in (False, True):

@@ -11,7 +11,7 @@ from pathlib import Path
 from fmtcanon.compiling.compile_commands import CompileCommand
 from fmtcanon.compiling.left import Left
 from fmtcanon.frame.findings import ERROR, Finding
-from fmtcanon.lsp.compiled import (
+from fmtcanon.lsp.compiled_findings import (
     CompiledAnswer,
     CompiledPart,
     FindingAt,
@@ -20,11 +20,11 @@ from fmtcanon.lsp.compiled import (
     diagnosis_of,
     fixes_of,
 )
-from fmtcanon.lsp.compiling import Compiling
+from fmtcanon.lsp.compile_queue import Compiling
 from fmtcanon.lsp.databases import check_program, folder_above
 from fmtcanon.lsp.documents import UTF_16, Document
 from fmtcanon.lsp.including import include_edit
-from fmtcanon.lsp.options import Options
+from fmtcanon.lsp.editor_options import Options
 from fmtcanon.lsp.views import SourceView
 from fmtcanon.models import Model
 from fmtcanon.source.written import WrittenSource

@@ -119,8 +119,11 @@ def completed_command(name, words):
 
 def test_kinds(module, trials):
     """The manual pages and the completions have each kind of a finding that a command has."""
-    for command, of_command, entry in [("check", "fitting", r"^\.B {}$"), ("diff", "diff", r"\b{}\b")]:
-        rules = importlib.import_module(f"{module.__name__}.{of_command}.reporting").RULES
+    for command, of_command, entry in [
+        ("check", "fitting.reporting", r"^\.B {}$"),
+        ("diff", "diff.diff_reports", r"\b{}\b"),
+    ]:
+        rules = importlib.import_module(f"{module.__name__}.{of_command}").RULES
         page = (TOP / f"man/fmtcanon-{command}.1").read_text(encoding="utf-8")
         missing = [it for it in rules if not re.search(entry.format(it), page, re.MULTILINE)]
         trials.expect(f"kinds of fmtcanon-{command}(1)", missing, [])

@@ -16,10 +16,10 @@ from fmtcanon.compiling.left import Left
 from fmtcanon.compiling.sources import Files
 from fmtcanon.compiling.stand_ins import StandIn, original
 from fmtcanon.frame.interrupting import Interrupted, interruptible
-from fmtcanon.rewriting.files import put_in_place
+from fmtcanon.rewriting.rewritten_files import put_in_place
 
 from tests.frame.cases import tests_of
-from tests.frame.fixtures import prepared
+from tests.frame.fixtures import InFolder, prepared
 
 # The seconds in which the command ends after a signal.
 SOON = 60
@@ -38,19 +38,6 @@ def runs(process):
         return Path(f"/proc/{process}/stat").read_text().rpartition(")")[2].split()[0] != "Z"
     except FileNotFoundError:
         return False
-
-
-class InFolder(unittest.TestCase):
-    def setUp(self):
-        folder = tempfile.TemporaryDirectory()
-        self.addCleanup(folder.cleanup)
-        self.work = Path(os.path.realpath(folder.name))
-
-    def put(self, name, text="old\n"):
-        file = self.work / name
-        file.parent.mkdir(exist_ok=True)
-        file.write_text(text)
-        return str(file)
 
 
 def here():

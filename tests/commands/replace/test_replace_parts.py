@@ -7,7 +7,7 @@ from fmtcanon.compiling.left import Left
 from fmtcanon.compiling.parsing import GNU_PRINTF, as_utf8
 from fmtcanon.compiling.targets import assertions_in
 from fmtcanon.rewriting import doubts
-from fmtcanon.rewriting.files import with_sources
+from fmtcanon.rewriting.rewritten_files import with_sources
 from fmtcanon.source.known import GETTEXT, KNOWN
 from fmtcanon.source.respelling import literals_of, respelled, runs_in
 from fmtcanon.source.tokens import Tokens, common_front

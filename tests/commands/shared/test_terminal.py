@@ -5,13 +5,11 @@ import os
 import re
 import subprocess
 import sys
-import tempfile
 import time
 import unittest
-from pathlib import Path
 from unittest import mock
 
-from fmtcanon.catalogs.sources import CatalogSource, Mark
+from fmtcanon.catalogs.catalog_lines import CatalogSource, Mark
 from fmtcanon.frame import progress
 from fmtcanon.frame.excerpts import Excerpt, excerpt_lines, shown_finding
 from fmtcanon.frame.terminals import Style, columns, style_of
@@ -19,7 +17,7 @@ from fmtcanon.frame.terminals import Style, columns, style_of
 from tests.commands.shared.terminal import on_terminal, plain
 from tests.frame import TOP
 from tests.frame.cases import tests_of
-from tests.frame.fixtures import prepared
+from tests.frame.fixtures import InFolder, prepared
 
 
 CATALOG = """\
@@ -105,15 +103,7 @@ new.c:5:9: error: rejected now: refused 3 Unexpected at byte 1 of "%y ok\\n"
 """
 
 
-class InFolder(unittest.TestCase):
-    def setUp(self):
-        folder = tempfile.TemporaryDirectory()
-        self.addCleanup(folder.cleanup)
-        self.work = Path(folder.name)
-
-    def put(self, name, text):
-        (self.work / name).write_text(text, encoding="utf-8")
-
+class OnScreen(InFolder):
     def piped(self, words):
         """The status of a command, and all that it writes into a pipe."""
         run = [sys.executable, "-B", *words]
@@ -126,7 +116,7 @@ class InFolder(unittest.TestCase):
 
 
 def here():
-    yield from prepared(InFolder)
+    yield from prepared(OnScreen)
 
 
 # What is shown of files, on a terminal of 80 columns, and that a pipe gets one line for each finding.

@@ -7,7 +7,7 @@ from itertools import accumulate
 from typing import Iterator, List, NamedTuple, Optional, Tuple
 
 from ..frame.excerpts import Excerpt, literal_excerpt
-from .tokens import ESCAPE, BadCatalog, Token, tokens, unquoted
+from .catalog_tokens import ESCAPE, BadCatalog, Token, tokens, unquoted
 
 # How many lines before a translation its message begins at most, and how many bytes after that are read.
 LINES, BYTES = 1_000, 100_000

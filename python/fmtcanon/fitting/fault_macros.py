@@ -1,12 +1,12 @@
 """Finds the macro whose definition has the directive of a fault: all its uses are one finding."""
 
-import functools
 import re
 from typing import Dict, Iterator, List, Mapping, NamedTuple, Optional, Sequence, Set, Tuple
 
 from .. import source_offset
 from ..compiling.calls import Call
 from ..compiling.line_markers import parts_in, path_in
+from ..source.directives import SourceDirective, definition_at
 from ..source.files import known_bytes, lines_in
 from ..source.tokens import NAME
 from .judging import Fault
@@ -14,8 +14,6 @@ from .judging import Fault
 # A definition in preprocessed text.
 DEFINED = re.compile(rb"^#define (\w+)(.*)$", re.MULTILINE)
 SYSTEM = b"3"
-# A definition in a source, up to the end of the last line that a backslash continues.
-DEFINITION = re.compile(rb"[ \t]*#[ \t]*define[ \t]+(\w+)(?:[^\\\n]|\\[\s\S])*")
 WORD = re.compile(NAME)
 
 
@@ -89,25 +87,21 @@ class Macros:
             waiting = {it.decode(errors="replace") for one in listed for it in WORD.findall(one.body)} - found
 
 
-@functools.lru_cache(maxsize=256)
+def definition_in(source: bytes, line: int) -> Optional[SourceDirective]:
+    """Returns the definition of a macro that begins in a line of a source."""
+    return definition_at(source, sum(map(len, lines_in(source)[: line - 1])) + line - 1)
+
+
 def last_line(source: bytes, line: int) -> int:
     """Returns the last line of a definition that begins in a line."""
-    found = DEFINITION.match(source, line_start(source, line))
-    return line + (found.group().count(b"\n") if found else 0)
+    found = definition_in(source, line)
+    return line + (source.count(b"\n", found.start, found.end - 1) if found else 0)
 
 
 def macro_at(source: bytes, offset: int) -> str:
     """Returns the name of the macro in whose definition an offset is, or an empty one."""
-    start = source.rfind(b"\n", 0, offset) + 1
-    while source.endswith((b"\\\n", b"\\\r\n"), 0, start):
-        start = source.rfind(b"\n", 0, start - 1) + 1
-    found = DEFINITION.match(source, start)
-    return found[1].decode() if found and offset < found.end() else ""
-
-
-def line_start(source: bytes, line: int) -> int:
-    """Returns where a line of a source begins."""
-    return sum(map(len, lines_in(source)[: line - 1])) + line - 1
+    found = definition_at(source, offset)
+    return found.name.decode() if found else ""
 
 
 def span_of(definition: Definition, fault: Fault) -> Optional[Tuple[bytes, int, Optional[int]]]:
@@ -115,13 +109,13 @@ def span_of(definition: Definition, fault: Fault) -> Optional[Tuple[bytes, int, 
     in the same literal; None if the definition hasn't its literal once.
     """
     source = known_bytes(definition.file)
-    found = DEFINITION.match(source, line_start(source, definition.line))
+    found = definition_in(source, definition.line)
     literal, begin, end = fault.tokens[0]
     plain = literal.source.encode()
-    if found is None or found.group().count(plain) != 1:
+    if found is None or source.count(plain, found.start, found.end) != 1:
         return None
     first, after = fault.range
-    at = found.start() + found.group().index(plain)
+    at = source.index(plain, found.start)
     offset = source_offset(plain, first - begin)
     last = source_offset(plain, after - 1 - begin) if after <= end else None
     return None if offset is None else (source, at + offset, None if last is None else at + last)

@@ -10,13 +10,13 @@ from ..frame.command_line import model_names
 from ..frame.findings import ERROR, WARNING, Finding, leveled
 from ..models import Model
 from ..source.places import Place, Source
-from . import judging
-from .compiled import Compiled, Fitting
-from .judging import is_judged, judge, may_be_format
+from . import pair_judging
+from .call_fitting import Compiled, Fitting
+from .pair_judging import is_judged, judge, may_be_format
 from .pairing import Pair, Pairing, paired
 
-RULES = {**judging.RULES, **{it: OF_CALLS[it] for it in (SIZE, KIND)}}
-FAULTS = (*judging.FAULTS, SIZE, KIND)
+RULES = {**pair_judging.RULES, **{it: OF_CALLS[it] for it in (SIZE, KIND)}}
+FAULTS = (*pair_judging.FAULTS, SIZE, KIND)
 
 
 class DiffReport(NamedTuple):

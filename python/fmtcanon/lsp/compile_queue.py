@@ -5,7 +5,7 @@ import time
 from typing import Any, Callable, List, Mapping, Optional
 
 from ..compiling.libclang import MISSING, cindex
-from .compiled import CompiledAnswer
+from .compiled_findings import CompiledAnswer
 from .compiler import Compiler, CompilerEnded
 from .views import DocumentView, SourceView
 from .worker import CompiledText

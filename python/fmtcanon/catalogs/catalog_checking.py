@@ -12,11 +12,11 @@ from ..formats.verdicts import argument_words
 from ..frame.command_line import model_names
 from ..frame.findings import ERROR, WARNING, Finding
 from .charsets import charset_named
-from .formats import DEPENDENT, MessageFormat, shape_of, shown_kinds, shown_type
+from .message_formats import DEPENDENT, MessageFormat, shape_of, shown_kinds, shown_type
 from .plurals import PluralRule, fault_of, rule_of
 from .reading import Catalog, Message, read_catalog
-from .sources import CatalogSource, Mark
-from .tokens import BadCatalog
+from .catalog_lines import CatalogSource, Mark
+from .catalog_tokens import BadCatalog
 
 # The types that an argument has whether it is printed as a number, a short number or a character.
 INTEGERS = {fmtcanon.Type.INT, fmtcanon.Type.UINT}

@@ -3,11 +3,11 @@
 from typing import Iterator, List, NamedTuple, Optional, Sequence, Tuple
 
 from .. import Model, Refused
-from ..catalogs.checking import FORMAT, TYPES, Checker, Right
-from ..catalogs.formats import MessageFormat
+from ..catalogs.catalog_checking import FORMAT, TYPES, Checker, Right
+from ..catalogs.message_formats import MessageFormat
 from ..catalogs.reading import charset_of, header_of
-from ..catalogs.sources import ends_of, part_around, string_at
-from ..catalogs.tokens import BadCatalog
+from ..catalogs.catalog_lines import ends_of, part_around, string_at
+from ..catalogs.catalog_tokens import BadCatalog
 from ..formats.explaining import ExplainedDirective, Explanation
 from ..formats.items import MACRO
 from ..formats.rejections import instead_of, instead_span
