@@ -155,7 +155,7 @@ def needed_by_page():
 
 def without_make():
     """The environment without what a make above says through it, for example that the folders entered are printed."""
-    said = ("MAKEFLAGS", "MAKELEVEL", "MFLAGS", "MAINTAINER")
+    said = ("MAKEFLAGS", "MAKELEVEL", "MFLAGS", "MAINTAINER", "JOBS", "SUITES")
     return {name: value for name, value in os.environ.items() if name not in said}
 
 
