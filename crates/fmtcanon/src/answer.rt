@@ -20,7 +20,7 @@ ghost use Rattle.fmtcanon.specs.declared.models.Models.{Models};
 
 use crate::arguments::arguments_for;
 use crate::byte_counts::bounds_line;
-use crate::formats::{GivenFormat, FormatNotation};
+use crate::formats::{FormatNotation, GivenFormat};
 use crate::lines::AnswerBytes;
 use crate::models::Models;
 use crate::outcome::Outcome;

@@ -76,7 +76,10 @@ fn verdict_lines(alloc: Global, verdict: &WholeVerdict) -> Result<AnswerBytes, A
     match verdict {
         WholeVerdict::Same => Ok(AnswerBytes::Line(line_of("same"))),
         WholeVerdict::Types(index) => Ok(AnswerBytes::Line(difference_line("types", *index))),
-        WholeVerdict::Directives(index) => Ok(AnswerBytes::Line(difference_line("directives", *index))),
+        WholeVerdict::Directives(index) => Ok(AnswerBytes::Line(difference_line(
+            "directives",
+            *index,
+        ))),
         WholeVerdict::Args(shown) => Ok(AnswerBytes::Bytes(shown_lines(alloc, shown)?)),
     }
 }

@@ -7,7 +7,7 @@ ghost use Rattle.fmtcanon.specs.Lines.{output_bytes};
 ghost use Rattle.fmtcanon.specs.declared.questions.PairQuestion.TheVariants.{Fits, FitsFewer};
 
 use crate::answer::{Answer, Ending};
-use crate::lines::{Line, AnswerBytes, difference_line, line_of};
+use crate::lines::{AnswerBytes, Line, difference_line, line_of};
 use crate::outcome::Outcome;
 use pf_posix::{fits, fits_fewer};
 use pf_values::Model;

@@ -10,7 +10,12 @@ use clap::ArgMatches;
 pub fn notation_of(inner: &ArgMatches<'_>) -> FormatNotation
     ensures { result ≡ notation_in (rows_in inner.now) }
 {
-    if_set(inner, "literal", FormatNotation::Literals, FormatNotation::Bytes)
+    if_set(
+        inner,
+        "literal",
+        FormatNotation::Literals,
+        FormatNotation::Bytes,
+    )
 }
 
 /// Returns the first of two values if an option without a value is given, otherwise the second.

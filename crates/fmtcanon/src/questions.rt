@@ -3,7 +3,7 @@ ghost use Rattle.std.specs.Prelude.{◌≢◌, ◌∷◌, [], MatchOption, codes
 ghost use Rattle.fmtcanon.specs.Options.{rows_in};
 ghost use Rattle.fmtcanon.specs.Questions.{IsAbout, IsAsked, IsAskedOfOne, IsAskedOfTwo, IsNoQuestionName, formats_of, formats_wanted};
 
-use crate::formats::{GivenFormat, FormatNotation};
+use crate::formats::{FormatNotation, GivenFormat};
 use crate::models::{Models, model_of, models_of};
 use crate::options::{if_set, notation_of};
 use clap::ArgMatches;
