@@ -390,9 +390,10 @@ def test_proved(trials):
     logic = r"logic(?: `rt version` gives as)? `(\w+)`"
     installed = re.search(r"whose " + logic, read(DOCS / "INSTALL.md"))[1]
     trials.expect("the kit's logic", re.search(logic, readme)[1], installed)
-    minutes = re.search(r"make test +# (\d+) minutes on two cores", readme)[1]
-    measured = re.search(r"from nothing, on two cores \| (\d+) min", read(DOCS / "CONTRIBUTING.md"))[1]
-    trials.expect("minutes of the gate, in fives", int(minutes), 5 * round(int(measured) / 5))
+    minutes = re.search(r"make test +# (\d+) minutes on two cores, (\d+) on four", readme).groups()
+    measured = re.findall(r"from nothing, on (?:two|four) cores \| (\d+) min", read(DOCS / "CONTRIBUTING.md"))
+    in_fives = [5 * round(int(it) / 5) for it in measured]
+    trials.expect("minutes of the gate, in fives", [int(it) for it in minutes], in_fives)
 
 
 def test_kinds_of_findings(trials):
